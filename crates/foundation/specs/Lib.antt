@@ -1,0 +1,3 @@
+pub mod BigEndian
+pub mod Fuel
+pub mod Text
