@@ -2,7 +2,7 @@
 -- One definition for every width: the width is how many bytes there are. Assumes nothing: these are definitions.
 use Prim.Native.Nat.{ℕ, zero, suc, _+_, _*_, _/_, _%_, _^_, _<_}
 use mathlib.Core.List.{List, [], _∷_, _++_}
-use lib.ListN.{length}
+use lib.ListN.{length, getD}
 
 -- the number that bytes stand for: each byte weighs 256 for every byte behind it
 abbrev pub bigEndian : List ℕ → ℕ
@@ -14,7 +14,6 @@ abbrev pub bytesOf : ℕ → ℕ → List ℕ
 bytesOf zero n = []
 bytesOf (suc width) n = bytesOf width (n / 256) ++ n % 256 ∷ []
 
--- each is a byte
+-- each is a byte, as in every slice of bytes
 abbrev pub AreBytes : List ℕ → Type 0
-AreBytes [] = Unit {0}
-AreBytes (b ∷ s) = (b < 256) × AreBytes s
+AreBytes s = (i : ℕ) → getD s i 0 < 256
