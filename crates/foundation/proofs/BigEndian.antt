@@ -7,10 +7,10 @@ use native.Mathlib.Numerals.{add-one}
 use native.Mathlib.Omega.{arith}
 use lib.Arith.{digits-lt}
 use lib.Dec.{lit<}
-use lib.ListN.{length, length-append, take, getD}
-use lib.Seq.{take-suc}
+use lib.ListN.{length, length-append, length-take, take, getD}
+use lib.Seq.{take-all, take-suc}
 use Rattle.foundation.specs.BigEndian.{bigEndian, bytesOf, AreBytes}
-use Rattle.foundation.proofs.Bytes.{append-bytes, cons-bytes, none-bytes}
+use Rattle.foundation.proofs.Bytes.{append-bytes, cons-bytes, none-bytes, take-bytes}
 
 -- a byte more at the end: the others weigh 256 times as much
 pub one-more : (s : List ℕ) (b : ℕ) → bigEndian (s ++ b ∷ []) ≡ bigEndian s * 256 + b
@@ -78,3 +78,14 @@ next-fits i x b l h k =
     let up : i + 1 ≤ 8 = omega arith in
     let most : 256 ^ (i + 1) ≤ 256 ^ 8 = pow-le-pow-right {n = 256} (lit< tt) up in
     omega (arith, next-bound i x b h k)
+
+-- a part of at most eight bytes is read whole
+pub read-whole : (n : ℕ) (s : List ℕ) → n ≤ 8 → take 8 (take n s) ≡ take n s
+read-whole n s h = take-all 8 (take n s) (simp length-take (omega arith))
+
+-- and its number is held by as many bytes
+pub part-bound : (n : ℕ) (s : List ℕ) → AreBytes s → bigEndian (take n s) < 256 ^ n
+part-bound n s h =
+    let short : length (take n s) ≤ n = simp length-take (omega arith) in
+    let most : 256 ^ length (take n s) ≤ 256 ^ n = pow-le-pow-right {n = 256} (lit< tt) short in
+    omega (arith, bounded (take n s) (take-bytes n s h))

@@ -1,0 +1,111 @@
+// Items: a header of eight bytes at a place, the length that it gives its payload, and the padding behind that.
+use foundation::big_endian;
+ghost use mathlib.Core.Path.{_≡_};
+ghost use Prim.Native.Nat.{_≤_, _<_};
+ghost use lib.ListN.{length};
+ghost use Rattle.klv.specs.Item.{headerOf, dataLen, aligned};
+ghost use Rattle.klv.specs.Header.{headerOfFirst, headerAt};
+
+// An item's header: its key as one number, its type byte, and the size and the repeat of its samples.
+pub struct KLV {
+    pub key: u32,
+    pub data_type: u8,
+    pub size: u8,
+    pub repeat: u16,
+}
+
+fn wide(x: u8) -> usize
+    ensures { λ r. ⌜ (r ≡ x) × (r < 256) ⌝ }
+{
+    x as usize
+}
+
+fn wider(x: u16) -> usize
+    ensures { λ r. ⌜ (r ≡ x) × (r < 65536) ⌝ }
+{
+    x as usize
+}
+
+impl KLV {
+    // The payload's length: size times repeat.
+    pub fn data_len(self) -> usize
+        ensures { λ r. ⌜ (r ≡ dataLen self) × (r < 16777216) ⌝ }
+    {
+        wide(self.size) * wider(self.repeat)
+    }
+
+    // The same with its padding.
+    pub fn aligned_data_len(self) -> usize
+        ensures { λ r. ⌜ (r ≡ aligned (dataLen self)) × (r < 16777220) ⌝ }
+    {
+        (self.data_len() + (Cursor::ALIGNMENT - 1)) / Cursor::ALIGNMENT * Cursor::ALIGNMENT
+    }
+}
+
+// What stands at a place.
+pub enum Header {
+    // an item: its header, and all of its payload behind that
+    Item(KLV),
+    // fewer than eight bytes
+    Short,
+    // a header whose payload runs past the end
+    Past,
+}
+
+// The header of eight bytes.
+fn read_header(s: &[u8]) -> KLV
+    requires { ⌜ 8 ≤ length (now s) ⌝ }
+    ensures { λ r. ⌜ r ≡ headerOf (now (s .entry)) ⌝ }
+{
+    KLV {
+        key: big_endian(&s[..4]) as u32,
+        data_type: s[4],
+        size: s[5],
+        repeat: big_endian(&s[6..8]) as u16,
+    }
+}
+
+// What stands first in some bytes.
+fn first_header(s: &[u8]) -> Header
+    ensures { λ r. ⌜ r ≡ headerOfFirst (now (s .entry)) ⌝ }
+{
+    if s.len() < Cursor::HEADER {
+        return Header::Short;
+    }
+    let klv = read_header(s);
+    if klv.data_len() <= s.len() - Cursor::HEADER {
+        Header::Item(klv)
+    } else {
+        Header::Past
+    }
+}
+
+// A place in a payload.
+pub struct Cursor {
+    pub at: usize,
+}
+
+impl Cursor {
+    pub const HEADER: usize = 8;
+
+    pub const ALIGNMENT: usize = 4;
+
+    pub const DEPTH: u32 = 16;
+
+    pub fn new(at: usize) -> Self
+        ensures { λ r. ⌜ r .at ≡ at ⌝ }
+    {
+        Cursor { at }
+    }
+
+    // What stands here in a level, given as the payload up to the level's end.
+    pub fn parse_header(self, s: &[u8]) -> Header
+        ensures { λ r. ⌜ r ≡ headerAt (now (s .entry)) (self .at) ⌝ }
+    {
+        let at = self.at;
+        if s.len() < at {
+            return Header::Short;
+        }
+        first_header(&s[at..])
+    }
+}
