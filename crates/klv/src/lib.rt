@@ -14,16 +14,16 @@ pub struct KLV {
     pub repeat: u16,
 }
 
-fn wide(x: u8) -> usize
-    ensures { λ r. ⌜ (r ≡ x) × (r < 256) ⌝ }
+fn wide(size: u8) -> usize
+    ensures { λ r. ⌜ (r ≡ size) × (r < 256) ⌝ }
 {
-    x as usize
+    size as usize
 }
 
-fn wider(x: u16) -> usize
-    ensures { λ r. ⌜ (r ≡ x) × (r < 65536) ⌝ }
+fn wider(repeat: u16) -> usize
+    ensures { λ r. ⌜ (r ≡ repeat) × (r < 65536) ⌝ }
 {
-    x as usize
+    repeat as usize
 }
 
 impl KLV {
