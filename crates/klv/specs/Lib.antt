@@ -1,3 +1,4 @@
 pub mod Item
 pub mod Header
 pub mod Level
+pub mod OneText

@@ -5,6 +5,7 @@ ghost use Prim.Native.Nat.{_≤_, _<_};
 ghost use lib.ListN.{length};
 ghost use Rattle.klv.specs.Item.{headerOf, dataLen, aligned};
 ghost use Rattle.klv.specs.Header.{headerOfFirst, headerAt};
+ghost use Rattle.klv.specs.OneText.{oneText, typeText};
 
 // An item's header: its key as one number, its type byte, and the size and the repeat of its samples.
 pub struct KLV {
@@ -39,6 +40,39 @@ impl KLV {
         ensures { λ r. ⌜ (r ≡ aligned (dataLen self)) × (r < 16777220) ⌝ }
     {
         (self.data_len() + (Cursor::ALIGNMENT - 1)) / Cursor::ALIGNMENT * Cursor::ALIGNMENT
+    }
+}
+
+// The key of the item that describes structures.
+pub const TYPE: u32 = 0x54595045;
+
+impl KLV {
+    // One text: F, or c with repeat 1 or size 1.
+    pub fn is_one_text(self) -> bool
+        ensures { λ r. ⌜ r ≡ oneText self ⌝ }
+    {
+        if self.data_type == b'F' {
+            return true;
+        }
+        if self.data_type == b'c' {
+            if self.repeat == 1 {
+                return true;
+            }
+            if self.size == 1 {
+                return true;
+            }
+        }
+        false
+    }
+
+    // A TYPE item whose value is one text.
+    pub fn is_type_text(self) -> bool
+        ensures { λ r. ⌜ r ≡ typeText self ⌝ }
+    {
+        if self.key == TYPE {
+            return self.is_one_text();
+        }
+        false
     }
 }
 

@@ -12,6 +12,10 @@ use Rattle.klv.proofs.KLV.data_len.Kinds as data-len-kinds
 use Rattle.klv.proofs.KLV.data_len.Reads as data-len-reads
 use Rattle.klv.proofs.KLV.aligned_data_len.Kinds as aligned-data-len-kinds
 use Rattle.klv.proofs.KLV.aligned_data_len.Reads as aligned-data-len-reads
+use Rattle.klv.proofs.KLV.is_one_text.Kinds as is-one-text-kinds
+use Rattle.klv.proofs.KLV.is_one_text.Reads as is-one-text-reads
+use Rattle.klv.proofs.KLV.is_type_text.Kinds as is-type-text-kinds
+use Rattle.klv.proofs.KLV.is_type_text.Reads as is-type-text-reads
 use Rattle.klv.proofs.Cursor.new.Kinds as new-kinds
 use Rattle.klv.proofs.Cursor.new.Reads as new-reads
 use Rattle.klv.proofs.Cursor.parse_header.Kinds as parse-header-kinds
@@ -31,6 +35,12 @@ data-len κs a x y s t p q = p .0 ∙ sym (q .0)
 
 pub aligned-data-len : OneResult 0 aligned-data-len-kinds.ps aligned-data-len-kinds.r aligned-data-len-reads.Learnt
 aligned-data-len κs a x y s t p q = p .0 ∙ sym (q .0)
+
+pub is-one-text : OneResult 0 is-one-text-kinds.ps is-one-text-kinds.r is-one-text-reads.Learnt
+is-one-text κs a x y s t p q = p ∙ sym q
+
+pub is-type-text : OneResult 0 is-type-text-kinds.ps is-type-text-kinds.r is-type-text-reads.Learnt
+is-type-text κs a x y s t p q = p ∙ sym q
 
 pub new : OneResult 0 new-kinds.ps new-kinds.r new-reads.Learnt
 new κs a x y s t p q = λ i. record { at = (p ∙ sym q) i }
