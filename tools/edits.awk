@@ -1,5 +1,6 @@
 # Reads must-fail edits (crates/NAME/must-fail/LABEL.edit) as rt does and prints what is wrong with each, without proving anything:
-# a file that is not there or is a proof (a broken proof shows nothing), an `old:` text that does not stand in it exactly once, no pair at all.
+# a file that is not there or is a proof (a broken proof shows nothing), an `old:` text that does not stand in it exactly once, no pair at all,
+# and a line that rt passes over though it is no comment, as the second line of a text.
 
 function fault(message) { print FILENAME ": " message }
 
@@ -41,4 +42,5 @@ FNR == 1 {
     old = ""
     pairs[FILENAME]++
 }
+!/^(file: |old: |new:|#|$)/ { fault("rt passes over its line " FNR ": " $0) }
 END { for (i = 1; i < ARGC; i++) if (!pairs[ARGV[i]]) print ARGV[i] ": it has no `old:` and `new:` pair" }
