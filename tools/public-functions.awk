@@ -1,9 +1,10 @@
-# Reads .rt files token by token and prints each public function that has a `requires`; exit 1 where there is one, or where
-# a file ends inside a brace, a text or a comment. What stands in the braces of a clause and in a `ghost use` is antt, the
-# prover's language, and is passed over by antt's own rules. See no-public-requires, which runs it.
+# Reads .rt files token by token and finds the public functions: those that another crate or another language can call.
+# Prints each that has a `requires`; exit 1 where there is one, or where a file ends inside a brace, a text or a comment.
+# With -v list=1: prints instead a line FILE NAME for every public function.
+# What stands in the braces of a clause and in a `ghost use` is antt, the prover's language, and is passed over by antt's own rules.
 
 function fault(line, message) {
-    print file ":" line ": " message
+    if (!list) print file ":" line ": " message
     faults = 1
 }
 
@@ -20,7 +21,8 @@ function is_public(    word, n, i) {
 }
 
 function end_of_signature() {
-    if (asked && public) fault(asked, "the public function `" name "` has a `requires`")
+    if (public && list) print file, name
+    if (public && asked) fault(asked, "the public function `" name "` has a `requires`")
     signature = 0
     before = ""
 }
