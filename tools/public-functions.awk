@@ -46,7 +46,10 @@ function signature_token(t) {
         end_of_signature()
         braces++
     } else if (t == ";") end_of_signature()
+    else if (t == "}") unopened()
 }
+
+function unopened() { fault(FNR, "a closing brace that nothing opened") }
 
 function token(t) {
     if (signature) signature_token(t)
@@ -60,7 +63,7 @@ function token(t) {
         before = ""
         if (t == "{") braces++
         if (t == "}" && --braces < 0) {
-            fault(FNR, "a closing brace that nothing opened")
+            unopened()
             braces = 0
         }
     } else before = before t " "
