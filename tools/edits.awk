@@ -1,6 +1,6 @@
 # Reads must-fail edits (crates/NAME/must-fail/LABEL.edit) as rt does and prints what is wrong with each, without proving anything:
-# a file that is not there or is a proof (a broken proof shows nothing), an `old:` text that does not stand in it exactly once, no pair at all,
-# and a line that rt passes over though it is no comment, as the second line of a text.
+# a file that is not there or is a proof (a broken proof shows nothing), an `old:` text that does not stand in it exactly once or is not changed,
+# no pair at all, and a line that rt passes over though it is no comment, as the second line of a text.
 
 function fault(message) { print FILENAME ": " message }
 
@@ -17,6 +17,7 @@ function replace(    at, behind) {
     at = old == "" ? 0 : index(text[file], old)
     behind = substr(text[file], at + length(old))
     if (!at) fault("its `old:` text is not in " file ": " old)
+    else if (old == new) fault("its `new:` text is its `old:` text: " old)
     else if (index(behind, old)) fault("its `old:` text is in " file " more than once: " old)
     else text[file] = substr(text[file], 1, at - 1) new behind
 }
