@@ -1,1 +1,4 @@
+pub mod Every
 pub mod Search
+pub mod Tables
+pub mod TagsAndGroups
