@@ -8,6 +8,10 @@ use denote.Triple.Clauses.{AtExit}
 use borrow.Fn.Kinds.{PK, RK, Out, Dens, resT, endedOf}
 use Rattle.foundation.proofs.big_endian.Kinds as big-endian-kinds
 use Rattle.foundation.proofs.big_endian.Reads as big-endian-reads
+use Rattle.keys.proofs.tag_id.Kinds as tag-id-kinds
+use Rattle.keys.proofs.tag_id.Reads as tag-id-reads
+use Rattle.keys.proofs.group_from_key.Kinds as group-from-key-kinds
+use Rattle.keys.proofs.group_from_key.Reads as group-from-key-reads
 use Rattle.klv.proofs.KLV.data_len.Kinds as data-len-kinds
 use Rattle.klv.proofs.KLV.data_len.Reads as data-len-reads
 use Rattle.klv.proofs.KLV.aligned_data_len.Kinds as aligned-data-len-kinds
@@ -29,6 +33,12 @@ OneResult n parameters result promise =
 
 pub big-endian : OneResult 1 big-endian-kinds.ps big-endian-kinds.r big-endian-reads.Learnt
 big-endian κs a x y s t p q = p ∙ sym q
+
+pub tag-id : OneResult 0 tag-id-kinds.ps tag-id-kinds.r tag-id-reads.Learnt
+tag-id κs a x y s t p q = p ∙ sym q
+
+pub group-from-key : OneResult 0 group-from-key-kinds.ps group-from-key-kinds.r group-from-key-reads.Learnt
+group-from-key κs a x y s t p q = p ∙ sym q
 
 pub data-len : OneResult 0 data-len-kinds.ps data-len-kinds.r data-len-reads.Learnt
 data-len κs a x y s t p q = p .0 ∙ sym (q .0)
