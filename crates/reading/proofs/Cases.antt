@@ -1,0 +1,102 @@
+-- Document 01's cases 1 to 6, 11 and 12 of the reading and of the last item, and samples of what is easy to get wrong, computed by the definitions.
+-- Assumes nothing.
+use Prim.Native.Nat.{ℕ, zero, suc, _+_}
+use Prim.Native.Char.{code}
+use Prim.Native.String.{String}
+use mathlib.Core.Path.{_≡_, refl}
+use mathlib.Core.Bool.{Bool, true, false}
+use mathlib.Core.List.{List, [], _∷_, _++_, map}
+use lib.ListN.{length}
+use Rattle.foundation.specs.BigEndian.{bytesOf}
+use Rattle.foundation.specs.Fuel.{run, fix}
+use Rattle.foundation.specs.Text.{key, characters}
+use Rattle.keys.specs.Keys.{tags}
+use Rattle.keys.specs.Table.{found}
+use Rattle.klv.specs.declared.KLV.{KLV}
+use Rattle.klv.specs.Item.{firstItem, laidOut}
+use Rattle.klv.specs.Level.{itemsOf}
+use Rattle.klv.specs.OneText.{oneText, typeText}
+use Rattle.reading.specs.Last.{lastItem, lastReading}
+use Rattle.reading.specs.Record.{numbers, noPlace}
+use Rattle.reading.specs.Walk.{roleOf, itemOutcome, walk, readingOf}
+use Rattle.reading.specs.Answer.{Answer, rows, noItem, theItem, refusal, answer, lastAnswer}
+
+-- ---- payloads
+
+abbrev header : String → ℕ → ℕ → ℕ → KLV
+header k letter size repeat = record { key = key k; «data_type» = letter; size = size; repeat = repeat }
+
+-- an item with no padding
+abbrev item : String → ℕ → ℕ → ℕ → List ℕ → List ℕ
+item k letter size repeat payload = laidOut (header k letter size repeat) payload []
+
+-- a container whose payload is shorter than 256 bytes
+abbrev holding : String → List ℕ → List ℕ
+holding k payload = item k 0 1 (length payload) payload
+
+abbrev five : List ℕ
+five = 1 ∷ 2 ∷ 3 ∷ 4 ∷ 5 ∷ []
+
+abbrev padding : List ℕ
+padding = 0 ∷ 0 ∷ 0 ∷ []
+
+-- so many containers round one item
+abbrev nested : ℕ → List ℕ
+nested zero = item "GYRO" (code "B") 1 1 (7 ∷ [])
+nested (suc n) = holding "STRM" (nested n)
+
+-- a TYPE that describes one byte, and a `?` item of one byte
+abbrev describes : List ℕ
+describes = item "TYPE" (code "c") 1 1 (characters "B") ++ padding
+
+abbrev described : List ℕ
+described = item "ABCD" (code "?") 1 1 (9 ∷ []) ++ padding
+
+-- case 12's payload, as document 01 gives it
+abbrev twelve : List ℕ
+twelve = bytesOf 28 0x5354524d_00_01_0014_5343414c_73_02_0001_00010000_4759524f_73_06_0000
+
+-- ---- cases
+
+pub data Case : Type 0 where
+  reads : List ℕ → Bool → Answer → Case  -- a payload, whether the caller's group is forced, and what the reading comes to
+  chains : List ℕ → Answer → Case  -- a payload, and what its last item comes to
+
+-- what the definitions come to, with room for two records
+abbrev pub comes : Case → Answer
+comes (reads payload forced said) = answer (readingOf forced payload 2)
+comes (chains payload said) = lastAnswer (lastReading payload)
+
+-- what document 01 says
+abbrev pub says : Case → Answer
+says (reads payload forced said) = said
+says (chains payload said) = said
+
+abbrev pub cases : List Case
+cases =
+    -- 1
+    reads [] false (rows [] 0)
+    ∷ chains [] noItem
+    -- 2
+    ∷ reads (0 ∷ 0 ∷ 0 ∷ 0 ∷ 0 ∷ 0 ∷ 0 ∷ []) false (rows [] 0)
+    ∷ chains (0 ∷ 0 ∷ 0 ∷ 0 ∷ 0 ∷ 0 ∷ 0 ∷ []) (refusal 3 0)
+    -- 3
+    ∷ reads (item "ABCD" (code "B") 5 1 five) false (rows ((0 ∷ 0 ∷ 0 ∷ 0 ∷ key "ABCD" ∷ 0x42_05_0001 ∷ noPlace ∷ 0 ∷ []) ∷ []) 1)
+    -- 4
+    ∷ reads (item "ABCD" (code "B") 6 1 five) false (refusal 2 0)
+    -- 5
+    ∷ reads (item "GYRO" (code "s") 6 0 []) false (rows [] 1)
+    ∷ chains (item "GYRO" (code "s") 6 0 []) (theItem 0 (header "GYRO" (code "s") 6 0))
+    -- 6
+    ∷ reads (holding "STRM" (1 ∷ 2 ∷ 3 ∷ 4 ∷ [])) false (refusal 3 0)
+    ∷ reads (holding "STRM" (1 ∷ 2 ∷ 3 ∷ 4 ∷ [])) true (rows [] 1)
+    -- 11
+    ∷ reads (nested 16) false (rows ((128 ∷ 1 ∷ key "GYRO" ∷ 1 ∷ key "GYRO" ∷ 0x42_01_0001 ∷ noPlace ∷ 16 ∷ []) ∷ []) 33)
+    ∷ reads (nested 17) false (refusal 4 0)
+    -- 12
+    ∷ reads twelve false (rows ((8 ∷ 1 ∷ key "GYRO" ∷ 4 ∷ key "SCAL" ∷ 0x73_02_0001 ∷ noPlace ∷ 1 ∷ []) ∷ []) 5)
+    ∷ []
+
+pub as-document-01-says : map comes cases ≡ map says cases
+unfolding fix run found tags firstItem itemsOf oneText typeText lastItem lastReading numbers roleOf itemOutcome walk readingOf
+as-document-01-says = refl
