@@ -1,3 +1,6 @@
 pub mod Cases
 pub mod Cut
 pub mod Outcome
+pub mod Payload
+pub mod Count
+pub mod Front

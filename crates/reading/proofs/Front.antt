@@ -1,0 +1,110 @@
+-- THE FRONT RULE: where a payload is refused at a place, the bytes before that place, read alone with the same room and the same forcing, are
+-- accepted, and their records are those that the walk had made before the item there. Assumes nothing.
+use Prim.Native.Nat.{ℕ, _+_, _-_, _<_, _≤_}
+use mathlib.Core.Path.{_≡_, refl, sym, ap, _∙_}
+use mathlib.Core.List.{List, [], _∷_, _++_}
+use mathlib.Core.Bool.{Bool, true, false, cond}
+use native.Mathlib.Decide.{decLe}
+use native.Mathlib.Omega.{arith}
+use borrow.Author.Tests.{lt-ltb, le-ltb}
+use lib.Dec.{ltb}
+use lib.ListN.{length, take, length-take}
+use Rattle.klv.specs.declared.KLV.{KLV}
+use Rattle.klv.specs.Item.{dataLen, aligned, item, firstItem}
+use Rattle.klv.specs.Level.{Level, left, broken, node, itemsOf}
+use Rattle.klv.proofs.Level.{items-first, items-none, Comes, of-node}
+use Rattle.reading.specs.Refusal.{Refusal, tooLong, mostBytes}
+use Rattle.reading.specs.Last.{nextPlace, lastItem}
+use Rattle.reading.specs.Record.{Record}
+use Rattle.reading.specs.Walk.{roleOf, headersFor, Spot, outermost, after, Outcome, accepted, refused, inFront, andThen, itemOutcome, walk, readingOf}
+use Rattle.reading.specs.Count.{headersByItems}
+use Rattle.reading.specs.Front.{thenMade, madeBefore, recordsBefore}
+use Rattle.reading.proofs.Cut.{first-front}
+use Rattle.reading.proofs.Outcome.{in-front-refused, item-refused}
+use Rattle.reading.proofs.Payload.{read-long, read-within, read-accepted}
+use Rattle.reading.proofs.Count.{by-items}
+
+module _ (forced : Bool) where
+  -- the bytes of a level before the place p: accepted, with the records that were made before
+  record Alone (level : Level) (s : List ℕ) (here : Spot) (room p : ℕ) : Type 0 where
+    from : here .place ≤ p
+    headers : ℕ
+    accepts : walk forced (itemsOf (take (p - here .place) s)) here room ≡ accepted (madeBefore p forced level here room) headers
+
+  -- the item at the head of a level, as the walk comes to it
+  abbrev here-is : KLV → List ℕ → Level → Spot → ℕ → Outcome
+  here-is h payload within here room = itemOutcome (headersFor forced (here .depth)) forced h payload (lastItem within (here .place + 8)) (walk forced within) here room
+
+  none-before : (level : Level) (here : Spot) (room p : ℕ) → p ≡ here .place → madeBefore p forced level here room ≡ []
+  unfolding madeBefore
+  none-before (left n) here room p e = refl
+  none-before broken here room p e = refl
+  none-before (node h payload within behind) here room p e = rw (le-ltb (here .place) p (omega arith))
+
+  -- nothing stands before the first item
+  at-once : (level : Level) (s : List ℕ) (here : Spot) (room p : ℕ) → p ≡ here .place → Alone level s here room p
+  unfolding walk
+  at-once level s here room p e =
+      let nothing : p - here .place ≡ 0 = omega arith in
+      record { from = omega arith; headers = 0; accepts = rw (nothing, items-none, none-before level here room p e) }
+
+  -- an item that was accepted stands before what is alone behind it
+  behind-it : (s : List ℕ) (here : Spot) (room p : ℕ) (h : KLV) (payload rest : List ℕ) (behind : Level) (ts : List Record) (j : ℕ) → firstItem s ≡ item h payload rest
+      → here-is h payload (itemsOf payload) here room ≡ accepted ts j
+      → Alone behind rest (after here h payload) (room - length ts) p → Alone (node h payload (itemsOf payload) behind) s here room p
+  unfolding walk madeBefore
+  behind-it s here room p h payload rest behind ts j first made alone =
+      let q : ℕ = p - nextPlace (here .place) h in
+      let next : nextPlace (here .place) h ≤ p = alone .from in
+      let long : p - here .place ≡ 8 + (aligned (dataLen h) + q) = omega arith in
+      let tree : itemsOf (take (p - here .place) s) ≡ node h payload (itemsOf payload) (itemsOf (take q rest)) =
+      ap (λ (n : ℕ). itemsOf (take n s)) long ∙ items-first (take (8 + (aligned (dataLen h) + q)) s) (item h payload (take q rest)) (first-front s h payload rest q first) in
+      let before : ltb (here .place) p ≡ true = lt-ltb (here .place) p (omega arith) in
+      record {
+        from = omega arith;
+        headers = j + alone .headers;
+        accepts = ap (λ (t : Level). walk forced t here room) tree
+            ∙ ap (λ (o : Outcome). andThen o (λ n. walk forced (itemsOf (take q rest)) (after here h payload) (room - n))) made
+            ∙ ap (inFront ts j) (alone .accepts)
+            ∙ rw (before, made);
+      }
+
+  alone : (level : Level) (s : List ℕ) (here : Spot) (room : ℕ) (why : Refusal) (p : ℕ) → itemsOf s ≡ level → walk forced level here room ≡ refused why p → Alone level s here room p
+  unfolding walk itemOutcome
+  alone (left n) s here room why p t e = let o : _≡_ {A = ℕ} 0 1 = cc in absurd (omega arith)
+  alone broken s here room why p t e = at-once broken s here room p (cc)
+  alone (node h payload within behind) s here room why p t e = go (alone behind) (here-is h payload within here room) refl e
+    where
+      w : Comes s h payload within behind
+      w = of-node s h payload within behind t
+
+      go : ((s : List ℕ) (here : Spot) (room : ℕ) (why : Refusal) (p : ℕ) → itemsOf s ≡ behind → walk forced behind here room ≡ refused why p → Alone behind s here room p)
+          → (o : Outcome) → here-is h payload within here room ≡ o → andThen o (λ n. walk forced behind (after here h payload) (room - n)) ≡ refused why p → Alone (node h payload within behind) s here room p
+      go rest (refused y at) k e′ =
+          let own : at ≡ here .place = item-refused (headersFor forced (here .depth)) forced h payload (lastItem within (here .place + 8)) (walk forced within) here room (roleOf h) y at k in
+          at-once (node h payload within behind) s here room p (cc)
+      go rest (accepted ts j) k e′ =
+          let later = in-front-refused ts j (walk forced behind (after here h payload) (room - length ts)) why p e′ in
+          let there = rest (w .rest) (after here h payload) (room - length ts) why p (w .is-behind) later in
+          rw (← w .is-inside) (behind-it s here room p h payload (w .rest) behind ts j (w .is-item) (rw (w .is-inside) k) there)
+
+-- THE FRONT RULE
+pub front-rule : (forced : Bool) (s : List ℕ) (room : ℕ) (why : Refusal) (p : ℕ) → readingOf forced s room ≡ refused why p
+    → readingOf forced (take p s) room ≡ accepted (recordsBefore p forced s room) (headersByItems forced (itemsOf (take p s)))
+front-rule forced s room why p e = go (decLe (length s) mostBytes)
+  where
+    as-read-alone : length (take p s) ≤ mostBytes → Alone forced (itemsOf s) s outermost room p
+        → readingOf forced (take p s) room ≡ accepted (recordsBefore p forced s room) (headersByItems forced (itemsOf (take p s)))
+    as-read-alone short a =
+        let whole : p - 0 ≡ p = omega arith in
+        let walked : walk forced (itemsOf (take p s)) outermost room ≡ accepted (recordsBefore p forced s room) (a .headers) = rw whole at (a .accepts) in
+        read-within forced (take p s) room short
+        ∙ walked
+        ∙ ap (accepted (recordsBefore p forced s room)) (by-items forced (itemsOf (take p s)) room (recordsBefore p forced s room) (a .headers) walked)
+
+    go : Dec (length s ≤ mostBytes) → readingOf forced (take p s) room ≡ accepted (recordsBefore p forced s room) (headersByItems forced (itemsOf (take p s)))
+    go (yes l) = as-read-alone (simp length-take (omega arith)) (alone forced (itemsOf s) s outermost room why p refl (sym (read-within forced s room l) ∙ e))
+    go (no l) =
+        let long = read-long forced s room (omega arith) in
+        let start : p ≡ 0 = cc in
+        as-read-alone (simp length-take (omega arith)) (at-once forced (itemsOf s) s outermost room p start)
