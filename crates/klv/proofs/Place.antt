@@ -9,22 +9,11 @@ use lib.Seq.{drop-drop}
 use Rattle.foundation.proofs.Parts.{drop-take}
 use Rattle.klv.specs.declared.KLV.{KLV}
 use Rattle.klv.specs.declared.Header.the-variants.{Item, Short, Past}
-use Rattle.klv.specs.Item.{dataLen, aligned, First, few, past, item, firstItem}
+use Rattle.klv.specs.Item.{dataLen, aligned, First, few, past, item, firstItem, payloadAt, endAt, nextAt}
 use Rattle.klv.specs.Header.{told, headerAt}
 use Rattle.klv.specs.Level.{Level, left, broken, node, itemsOf}
 use Rattle.klv.proofs.Item.{of-few, of-item, Stands}
 use Rattle.klv.proofs.Level.{items-first}
-
--- the payload of an item at a place
-abbrev pub payloadAt : List ℕ → ℕ → KLV → List ℕ
-payloadAt s at h = take (dataLen h) (drop (at + 8) s)
-
--- the end of that payload, and the place of the next item
-abbrev pub endAt : ℕ → KLV → ℕ
-endAt at h = at + 8 + dataLen h
-
-abbrev pub nextAt : ℕ → KLV → ℕ
-nextAt at h = at + 8 + aligned (dataLen h)
 
 module _ (s : List ℕ) (at : ℕ) where
   -- nothing more

@@ -34,6 +34,20 @@ behind h s = cond (leb (dataLen h) (length s)) (item h (take (dataLen h) s) (dro
 unfoldable pub firstItem : List ℕ → First
 firstItem s = cond (ltb (length s) 8) few (behind (headerOf s) (drop 8 s))
 
+-- ---- at a place
+
+-- the payload of the item at a place: it stands behind the header of 8 bytes
+abbrev pub payloadAt : List ℕ → ℕ → KLV → List ℕ
+payloadAt s at h = take (dataLen h) (drop (at + 8) s)
+
+-- the end of that payload
+abbrev pub endAt : ℕ → KLV → ℕ
+endAt at h = at + 8 + dataLen h
+
+-- the place of the next item, behind the padding
+abbrev pub nextAt : ℕ → KLV → ℕ
+nextAt at h = at + 8 + aligned (dataLen h)
+
 -- ---- laid out
 
 -- a header that eight bytes hold: a size byte, a 16-bit repeat
