@@ -10,11 +10,11 @@ use borrow.Author.Tests.{lt-ltb, le-ltb}
 use lib.Dec.{ltb}
 use lib.ListN.{length, take, length-take}
 use Rattle.klv.specs.declared.KLV.{KLV}
-use Rattle.klv.specs.Item.{dataLen, aligned, item, firstItem}
+use Rattle.klv.specs.Item.{dataLen, aligned, item, firstItem, nextAt}
 use Rattle.klv.specs.Level.{Level, left, broken, node, itemsOf}
 use Rattle.klv.proofs.Level.{items-first, items-none, Comes, of-node}
 use Rattle.reading.specs.Refusal.{Refusal, tooLong, mostBytes}
-use Rattle.reading.specs.Last.{nextPlace, lastItem}
+use Rattle.reading.specs.Last.{lastItem}
 use Rattle.reading.specs.Record.{Record}
 use Rattle.reading.specs.Walk.{roleOf, headersFor, Spot, outermost, after, Outcome, accepted, refused, inFront, andThen, itemOutcome, walk, readingOf}
 use Rattle.reading.specs.Count.{headersByItems}
@@ -54,8 +54,8 @@ module _ (forced : Bool) where
       → Alone behind rest (after here h payload) (room - length ts) p → Alone (node h payload (itemsOf payload) behind) s here room p
   unfolding walk madeBefore
   behind-it s here room p h payload rest behind ts j first made alone =
-      let q : ℕ = p - nextPlace (here .place) h in
-      let next : nextPlace (here .place) h ≤ p = alone .from in
+      let q : ℕ = p - nextAt (here .place) h in
+      let next : nextAt (here .place) h ≤ p = alone .from in
       let long : p - here .place ≡ 8 + (aligned (dataLen h) + q) = omega arith in
       let tree : itemsOf (take (p - here .place) s) ≡ node h payload (itemsOf payload) (itemsOf (take q rest)) =
       ap (λ (n : ℕ). itemsOf (take n s)) long ∙ items-first (take (8 + (aligned (dataLen h) + q)) s) (item h payload (take q rest)) (first-front s h payload rest q first) in
