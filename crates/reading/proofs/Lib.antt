@@ -4,3 +4,5 @@ pub mod Outcome
 pub mod Payload
 pub mod Count
 pub mod Front
+pub mod Place
+pub mod Role
