@@ -6,3 +6,5 @@ pub mod Count
 pub mod Front
 pub mod Place
 pub mod Role
+pub mod Bounds
+pub mod Stand
