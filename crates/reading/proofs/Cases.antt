@@ -1,4 +1,4 @@
--- Document 01's cases 1 to 6, 11 and 12 of the reading and of the last item, and samples of what is easy to get wrong, computed by the definitions.
+-- Document 01's cases 1 to 6, 11 and 12, and samples of what is easy to get wrong and of the order of refusals, computed by the definitions.
 -- Assumes nothing.
 use Prim.Native.Nat.{ℕ, zero, suc, _+_}
 use Prim.Native.Char.{code}
@@ -40,10 +40,10 @@ five = 1 ∷ 2 ∷ 3 ∷ 4 ∷ 5 ∷ []
 abbrev padding : List ℕ
 padding = 0 ∷ 0 ∷ 0 ∷ []
 
--- so many containers round one item
-abbrev nested : ℕ → List ℕ
-nested zero = item "GYRO" (code "B") 1 1 (7 ∷ [])
-nested (suc n) = holding "STRM" (nested n)
+-- so many containers round some bytes
+abbrev round : ℕ → List ℕ → List ℕ
+round zero bytes = bytes
+round (suc n) bytes = holding "STRM" (round n bytes)
 
 -- a TYPE that describes one byte, and a `?` item of one byte
 abbrev describes : List ℕ
@@ -91,8 +91,8 @@ cases =
     ∷ reads (holding "STRM" (1 ∷ 2 ∷ 3 ∷ 4 ∷ [])) false (refusal 3 0)
     ∷ reads (holding "STRM" (1 ∷ 2 ∷ 3 ∷ 4 ∷ [])) true (rows [] 1)
     -- 11
-    ∷ reads (nested 16) false (rows ((128 ∷ 1 ∷ key "GYRO" ∷ 1 ∷ key "GYRO" ∷ 0x42_01_0001 ∷ noPlace ∷ 16 ∷ []) ∷ []) 33)
-    ∷ reads (nested 17) false (refusal 4 0)
+    ∷ reads (round 16 (item "GYRO" (code "B") 1 1 (7 ∷ []))) false (rows ((128 ∷ 1 ∷ key "GYRO" ∷ 1 ∷ key "GYRO" ∷ 0x42_01_0001 ∷ noPlace ∷ 16 ∷ []) ∷ []) 33)
+    ∷ reads (round 17 (item "GYRO" (code "B") 1 1 (7 ∷ []))) false (refusal 4 0)
     -- 12
     ∷ reads twelve false (rows ((8 ∷ 1 ∷ key "GYRO" ∷ 4 ∷ key "SCAL" ∷ 0x73_02_0001 ∷ noPlace ∷ 1 ∷ []) ∷ []) 5)
     ∷ []
@@ -100,3 +100,48 @@ cases =
 pub as-document-01-says : map comes cases ≡ map says cases
 unfolding fix run found tags firstItem itemsOf oneText typeText lastItem lastReading numbers roleOf itemOutcome walk readingOf
 as-document-01-says = refl
+
+-- ---- samples
+
+-- the row of a `?` item of one byte: its place, its group, the place of the TYPE in force, its depth
+abbrev row : ℕ → ℕ → ℕ → ℕ → ℕ → List ℕ
+row place kind group type depth = place ∷ kind ∷ group ∷ 0 ∷ key "ABCD" ∷ 0x3f_01_0001 ∷ type ∷ depth ∷ []
+
+abbrev pub samples : List Case
+samples =
+    -- padding is stepped over between items, and what is missing after the last one is not asked for
+    reads (described ++ item "ABCD" (code "?") 1 1 (9 ∷ [])) false (rows (row 0 0 0 noPlace 0 ∷ row 12 0 0 noPlace 0 ∷ []) 2)
+    ∷ chains (described ++ item "SCAL" (code "B") 1 1 (9 ∷ [])) (theItem 12 (header "SCAL" (code "B") 1 1))
+    -- a TYPE is in force for later items of its level, and not for those before it
+    ∷ reads (described ++ describes ++ described) false (rows (row 0 0 0 noPlace 0 ∷ row 24 0 0 12 0 ∷ []) 3)
+    -- nor inside a container; behind the container it still is
+    ∷ reads (describes ++ holding "STRM" described ++ described) false (rows (row 20 1 (key "ABCD") noPlace 1 ∷ row 32 0 0 0 0 ∷ []) 5)
+    -- nor after its level
+    ∷ reads (holding "STRM" describes ++ described) false (rows (row 20 0 0 noPlace 0 ∷ []) 4)
+    -- an empty TYPE is skipped, and a TYPE of two texts is a row
+    ∷ reads (describes ++ item "TYPE" (code "c") 1 0 [] ++ described) false (rows (row 20 0 0 0 0 ∷ []) 3)
+    ∷ reads (item "TYPE" (code "c") 2 2 (characters "BBBB")) false (rows ((0 ∷ 0 ∷ 0 ∷ 0 ∷ key "TYPE" ∷ 0x63_02_0002 ∷ noPlace ∷ 0 ∷ []) ∷ []) 1)
+    -- an item that is no `?` item shows no TYPE
+    ∷ reads (describes ++ item "SCAL" (code "B") 1 1 (9 ∷ [])) false (rows ((12 ∷ 0 ∷ 0 ∷ 4 ∷ key "SCAL" ∷ 0x42_01_0001 ∷ noPlace ∷ 0 ∷ []) ∷ []) 2)
+    -- the caller's group holds throughout where it is forced, and each header is read once
+    ∷ reads (holding "DEVC" (holding "STRM" described)) true (rows (row 16 0 0 noPlace 2 ∷ []) 3)
+    ∷ reads (holding "DEVC" (holding "STRM" described)) false (rows (row 16 1 (key "ABCD") noPlace 2 ∷ []) 5)
+    -- a refusal inside is placed at the outermost item
+    ∷ reads (described ++ holding "DEVC" (holding "STRM" (1 ∷ 2 ∷ 3 ∷ 4 ∷ []))) false (refusal 3 12)
+    ∷ reads (described ++ holding "DEVC" (item "ABCD" (code "B") 6 1 five)) true (refusal 2 12)
+    -- the chain's is where it stops
+    ∷ chains (described ++ 1 ∷ 2 ∷ 3 ∷ []) (refusal 3 12)
+    ∷ chains (described ++ item "ABCD" (code "B") 6 1 five) (refusal 2 12)
+    -- a third row does not fit, at any depth, and its item comes before the next; an empty item and a TYPE take no room
+    ∷ reads (described ++ described ++ described) false (refusal 5 24)
+    ∷ reads (described ++ holding "STRM" (described ++ described) ++ item "ABCD" (code "B") 6 1 five) false (refusal 5 12)
+    ∷ reads (described ++ described ++ describes ++ item "GYRO" (code "s") 6 0 []) false (rows (row 0 0 0 noPlace 0 ∷ row 12 0 0 noPlace 0 ∷ []) 4)
+    -- the depth comes before the chain, and the chain before what is inside; an empty container is skipped at any depth
+    ∷ reads (round 17 (1 ∷ 2 ∷ 3 ∷ 4 ∷ [])) false (refusal 4 0)
+    ∷ reads (holding "DEVC" (holding "STRM" (1 ∷ 2 ∷ 3 ∷ 4 ∷ []) ++ item "ABCD" (code "B") 6 1 five)) false (refusal 2 0)
+    ∷ reads (round 17 []) false (rows [] 33)
+    ∷ []
+
+pub as-it-should : map comes samples ≡ map says samples
+unfolding fix run found tags firstItem itemsOf oneText typeText lastItem lastReading numbers roleOf itemOutcome walk readingOf
+as-it-should = refl

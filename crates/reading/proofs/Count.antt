@@ -110,15 +110,15 @@ module _ (forced : Bool) where
   Same level = (here : Spot) (room : ℕ) → walk forced level here room ≡ more (chained (here .depth) * chainReads level) (walkCounting forced level here room)
 
   same-item : (role : Role) (h : KLV) (payload : List ℕ) (within : Level) (chain : Last) (here : Spot) (room : ℕ) → Same within
-      → byRole role (headersFor forced (here .depth)) forced h payload chain (walk forced within) here room
-      ≡ more (chained (here .depth)) (byRole role (readsAt role forced within) forced h payload chain (walkCounting forced within) here room)
+      → byRole (headersFor forced (here .depth)) forced h payload chain (walk forced within) here room role
+      ≡ more (chained (here .depth)) (byRole (readsAt role forced within) forced h payload chain (walkCounting forced within) here room role)
   same-item empty h payload within chain here room inner = ap (accepted []) (own-is (here .depth))
   same-item typeItem h payload within chain here room inner = ap (accepted []) (own-is (here .depth))
   same-item rowItem h payload within chain here room inner = more-row room (headersFor forced (here .depth)) (chained (here .depth)) 1 (recordOf here h payload) (own-is (here .depth))
   same-item container h payload within chain here room inner = by-entry (entry forced here chain)
     where
-      by-entry : (x : Entry) → entered x (headersFor forced (here .depth)) (walk forced within) here room
-          ≡ more (chained (here .depth)) (entered x (readsAt container forced within) (walkCounting forced within) here room)
+      by-entry : (x : Entry) → entered (headersFor forced (here .depth)) forced h payload chain (walk forced within) here room x
+          ≡ more (chained (here .depth)) (entered (readsAt container forced within) forced h payload chain (walkCounting forced within) here room x)
       by-entry (enter group) =
           ap (around (headersFor forced (here .depth)) (here .place)) (inner (inside here group) room ∙ ap (λ (n : ℕ). more ((n - 1) * chainReads within) (walkCounting forced within (inside here group) room)) (below (here .depth)))
           ∙ more-around (walkCounting forced within (inside here group) room) (here .place) (headersFor forced (here .depth)) (chained (here .depth)) (readsAt container forced within) (chained 1 * chainReads within) (own-is (here .depth)) (reads-is within)
@@ -129,7 +129,7 @@ module _ (forced : Bool) where
   same-node h payload within behind inner rest here room =
       let chain : Last = lastItem within (here .place + 8) in
       let d : ℕ = chained (here .depth) in
-      let o : Outcome = byRole (roleOf h) (readsAt (roleOf h) forced within) forced h payload chain (walkCounting forced within) here room in
+      let o : Outcome = itemOutcome (readsAt (roleOf h) forced within) forced h payload chain (walkCounting forced within) here room in
       ap (λ (x : Outcome). andThen x (λ n. walk forced behind (after here h payload) (room - n))) (same-item (roleOf h) h payload within chain here room inner)
       ∙ more-then o (λ n. walk forced behind (after here h payload) (room - n)) (λ n. walkCounting forced behind (after here h payload) (room - n)) d (d * chainReads behind) (λ n. rest (after here h payload) (room - n))
       ∙ ap (λ (k : ℕ). more k (andThen o (λ n. walkCounting forced behind (after here h payload) (room - n)))) (omega arith)
