@@ -1,6 +1,6 @@
 -- Document 01's cases 1 to 6, 11 and 12, and samples of what is easy to get wrong and of the order of refusals, computed by the definitions.
 -- Assumes nothing.
-use Prim.Native.Nat.{ℕ, zero, suc, _+_}
+use Prim.Native.Nat.{ℕ, zero, suc}
 use Prim.Native.Char.{code}
 use Prim.Native.String.{String}
 use mathlib.Core.Path.{_≡_, refl}

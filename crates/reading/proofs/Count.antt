@@ -5,18 +5,17 @@ use mathlib.Core.Path.{_≡_, refl, sym, ap, _∙_}
 use mathlib.Core.List.{List, [], _∷_, _++_}
 use mathlib.Core.Bool.{Bool, true, false, _||_, cond}
 use native.Mathlib.Omega.{arith}
-use lib.Dec.{ltb, eqb}
+use lib.Dec.{eqb}
 use lib.ListN.{length}
 use borrow.Author.Tests.{ne-eqb}
 use Rattle.klv.specs.declared.KLV.{KLV}
 use Rattle.klv.specs.Level.{Level, left, broken, node, itemsOf}
-use Rattle.reading.specs.Refusal.{tooLong, mostBytes}
 use Rattle.reading.specs.Last.{Last, lastItem}
-use Rattle.reading.specs.Record.{Group, Record}
+use Rattle.reading.specs.Record.{Record}
 use Rattle.reading.specs.Walk.{Role, empty, container, typeItem, rowItem, roleOf, headersFor, Spot, outermost, inside, after, recordOf, Entry, enter, refuse, entry}
 use Rattle.reading.specs.Walk.{Outcome, accepted, refused, inFront, andThen, around, rowOutcome, entered, byRole, itemOutcome, walk, readingOf}
 use Rattle.reading.specs.Count.{chainReads, readsAt, walkCounting, itemsOn, inContainer, itemsBelow, headersByItems}
-use Rattle.reading.proofs.Outcome.{in-front-none, Both, both-accepted, item-accepted}
+use Rattle.reading.proofs.Outcome.{in-front-none, both-accepted, item-accepted}
 use Rattle.reading.proofs.Payload.{read-accepted}
 
 -- ---- by the items

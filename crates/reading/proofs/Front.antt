@@ -1,9 +1,9 @@
 -- THE FRONT RULE: where a payload is refused at a place, the bytes before that place, read alone with the same room and the same forcing, are
 -- accepted, and their records are those that the walk had made before the item there. Assumes nothing.
-use Prim.Native.Nat.{ℕ, _+_, _-_, _<_, _≤_}
+use Prim.Native.Nat.{ℕ, _+_, _-_, _≤_}
 use mathlib.Core.Path.{_≡_, refl, sym, ap, _∙_}
-use mathlib.Core.List.{List, [], _∷_, _++_}
-use mathlib.Core.Bool.{Bool, true, false, cond}
+use mathlib.Core.List.{List, []}
+use mathlib.Core.Bool.{Bool, true}
 use native.Mathlib.Decide.{decLe}
 use native.Mathlib.Omega.{arith}
 use borrow.Author.Tests.{lt-ltb, le-ltb}
@@ -12,15 +12,16 @@ use lib.ListN.{length, take, length-take}
 use Rattle.klv.specs.declared.KLV.{KLV}
 use Rattle.klv.specs.Item.{dataLen, aligned, item, firstItem, nextAt}
 use Rattle.klv.specs.Level.{Level, left, broken, node, itemsOf}
+use Rattle.klv.proofs.Item.{item-lengths}
 use Rattle.klv.proofs.Level.{items-first, items-none, Comes, of-node}
-use Rattle.reading.specs.Refusal.{Refusal, tooLong, mostBytes}
+use Rattle.reading.specs.Refusal.{Refusal, mostBytes}
 use Rattle.reading.specs.Last.{lastItem}
 use Rattle.reading.specs.Record.{Record}
 use Rattle.reading.specs.Walk.{roleOf, headersFor, Spot, outermost, after, Outcome, accepted, refused, inFront, andThen, itemOutcome, walk, readingOf}
 use Rattle.reading.specs.Count.{headersByItems}
-use Rattle.reading.specs.Front.{thenMade, madeBefore, recordsBefore}
+use Rattle.reading.specs.Front.{madeBefore, recordsBefore}
 use Rattle.reading.proofs.Cut.{first-front}
-use Rattle.reading.proofs.Outcome.{in-front-refused, item-refused}
+use Rattle.reading.proofs.Outcome.{both-accepted, in-front-refused, item-refused}
 use Rattle.reading.proofs.Payload.{read-long, read-within, read-accepted}
 use Rattle.reading.proofs.Count.{by-items}
 
@@ -87,6 +88,36 @@ module _ (forced : Bool) where
           let later = in-front-refused ts j (walk forced behind (after here h payload) (room - length ts)) why p e′ in
           let there = rest (w .rest) (after here h payload) (room - length ts) why p (w .is-behind) later in
           rw (← w .is-inside) (behind-it s here room p h payload (w .rest) behind ts j (w .is-item) (rw (w .is-inside) k) there)
+
+  -- ---- the records made before the end are all of them
+
+  abbrev Whole : Level → Type 0
+  Whole level =
+      (s : List ℕ) (here : Spot) (room p : ℕ) (rs : List Record) (k : ℕ) → itemsOf s ≡ level → (8 ≤ length s → here .place + length s ≤ p) → walk forced level here room ≡ accepted rs k
+      → madeBefore p forced level here room ≡ rs
+
+  whole-node : (h : KLV) (payload : List ℕ) (within behind : Level) → Whole behind → Whole (node h payload within behind)
+  unfolding walk madeBefore
+  whole-node h payload within behind rest s here room p rs k t reach e =
+      let w = of-node s h payload within behind t in
+      let n = item-lengths s h payload (w .rest) (w .is-item) in
+      let both = both-accepted (here-is h payload within here room) (λ n. walk forced behind (after here h payload) (room - n)) rs k e in
+      let end : here .place + length s ≤ p = reach (omega (arith, n .payload)) in
+      let before : ltb (here .place) p ≡ true = lt-ltb (here .place) p (omega (arith, n .payload)) in
+      let made = both .is-first in
+      let second = rest (w .rest) (after here h payload) (room - length (both .first)) p (both .second) (both .second-headers) (w .is-behind)
+      (λ some. omega (arith, n .is-data, n .payload, n .rest)) (both .is-second) in
+      rw (before, made, second) (sym (both .records))
+
+  whole : (level : Level) → Whole level
+  unfolding walk madeBefore
+  whole (left n) = λ s here room p rs k t reach e. (let none : rs ≡ [] = cc in sym none)
+  whole broken = λ s here room p rs k t reach e. (let o : _≡_ {A = ℕ} 0 1 = cc in absurd (omega arith))
+  whole (node h payload within behind) = whole-node h payload within behind (whole behind)
+
+-- of an accepted payload, those before its end are all its records
+pub all-records : (forced : Bool) (s : List ℕ) (room : ℕ) (rs : List Record) (headers : ℕ) → readingOf forced s room ≡ accepted rs headers → recordsBefore (length s) forced s room ≡ rs
+all-records forced s room rs headers e = whole forced (itemsOf s) s outermost room (length s) rs headers refl (λ some. omega arith) (read-accepted forced s room rs headers e)
 
 -- THE FRONT RULE
 pub front-rule : (forced : Bool) (s : List ℕ) (room : ℕ) (why : Refusal) (p : ℕ) → readingOf forced s room ≡ refused why p

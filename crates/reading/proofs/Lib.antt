@@ -8,3 +8,5 @@ pub mod Place
 pub mod Role
 pub mod Bounds
 pub mod Stand
+pub mod Row
+pub mod Last

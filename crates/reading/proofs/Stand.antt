@@ -1,28 +1,27 @@
 -- Each record of an accepted reading says what stands at its places: its header and its payload are those of the whole item there, and the TYPE in
 -- force is a whole TYPE item of one text with payload. Assumes nothing.
-use Prim.Native.Nat.{ℕ, _+_, _-_, _≤_}
+use Prim.Native.Nat.{ℕ, _+_, _-_}
 use Prim.Native.Char.{code}
-use mathlib.Core.Path.{_≡_, refl, sym, ap, subst, _∙_}
+use mathlib.Core.Path.{_≡_, refl, sym, subst}
 use mathlib.Core.Logic.{_≢_, ⊎-elim}
-use mathlib.Core.List.{List, [], _∷_, _++_, List·Memᴰ, List·Memᴰ·not-nil, List·Memᴰ·eq-of-singleton, List·Memᴰ·append-cases}
+use mathlib.Core.List.{List, [], _++_, List·Memᴰ, List·Memᴰ·not-nil, List·Memᴰ·eq-of-singleton, List·Memᴰ·append-cases}
 use mathlib.Core.Bool.{Bool, true, false, cond}
 use native.Mathlib.Omega.{arith}
 use lib.Dec.{eqb}
-use lib.ListN.{length, take, drop}
+use lib.ListN.{length}
 use Rattle.klv.specs.declared.KLV.{KLV}
 use Rattle.klv.specs.declared.Header.the-variants.{Item}
-use Rattle.klv.specs.Header.{told, headerAt}
-use Rattle.klv.specs.Item.{dataLen, payloadAt, endAt, nextAt}
+use Rattle.klv.specs.Header.{headerAt}
+use Rattle.klv.specs.Item.{dataLen, payloadAt, endAt}
 use Rattle.klv.specs.OneText.{typeText}
 use Rattle.klv.specs.Level.{Level, left, broken, node, itemsOf}
-use Rattle.klv.proofs.Level.{of-node}
 use Rattle.reading.specs.Last.{Last, lastItem}
-use Rattle.reading.specs.Record.{Group, TypeInForce, noType, typeAt, Record}
-use Rattle.reading.specs.Walk.{Role, empty, container, typeItem, rowItem, roleOf, headersFor, Spot, outermost, inside, typeAfter, after, typeShown, recordOf, accepted, itemOutcome, walk, readingOf}
+use Rattle.reading.specs.Record.{TypeInForce, noType, typeAt, Record}
+use Rattle.reading.specs.Walk.{Role, empty, container, typeItem, rowItem, roleOf, headersFor, Spot, outermost, inside, typeAfter, after, typeShown, accepted, itemOutcome, walk, readingOf}
 use Rattle.reading.specs.Place.{levelAt}
 use Rattle.reading.proofs.Outcome.{both-accepted, item-accepted}
 use Rattle.reading.proofs.Payload.{read-accepted}
-use Rattle.reading.proofs.Place.{item-there, whole-level}
+use Rattle.reading.proofs.Place.{node-there, whole-level}
 use Rattle.reading.proofs.Role.{Means, role-means}
 
 -- a whole item with this header and this payload stands at a place
@@ -51,19 +50,6 @@ pub record Stands (s : List ℕ) (r : Record) : Type 0 where
 module _ (s : List ℕ) where
   abbrev AllStand : List Record → Type 0
   AllStand rs = (r : Record) → List·Memᴰ r rs → Stands s r
-
-  -- a node of a level stands at the level's place
-  record NodeStands (at end : ℕ) (h : KLV) (payload : List ℕ) (within behind : Level) : Type 0 where
-    item : ItemStands s at h payload
-    inner : levelAt s (at + 8) (endAt at h) ≡ within
-    rest : levelAt s (nextAt at h) end ≡ behind
-
-  node-stands : (at end : ℕ) (h : KLV) (payload : List ℕ) (within behind : Level) → levelAt s at end ≡ node h payload within behind → NodeStands at end h payload within behind
-  node-stands at end h payload within behind t =
-      let w = of-node (drop at (take end s)) h payload within behind t in
-      let there = item-there s at end h (ap told (w .is-item)) in
-      let same = there .level in
-      record { item = record { header = there .whole; payload-is = cc }; inner = cc; rest = cc }
 
   type-after : (h : KLV) (payload : List ℕ) (here : Spot) → ItemStands s (here .place) h payload → InForceStands s (here .type) → InForceStands s (typeAfter (roleOf h) payload here)
   type-after h payload here item type = go (roleOf h) (role-means h)
@@ -96,16 +82,17 @@ module _ (s : List ℕ) where
     standing-node : (h : KLV) (payload : List ℕ) (within behind : Level) → Standing within → Standing behind → Standing (node h payload within behind)
     unfolding walk itemOutcome
     standing-node h payload within behind inner rest here end room rs k t type e =
-        let n = node-stands (here .place) end h payload within behind t in
+        let n = node-there s (here .place) end h payload within behind t in
+        let item : ItemStands s (here .place) h payload = record { header = n .there .whole; payload-is = n .payload-is } in
         let own : ℕ = headersFor forced (here .depth) in
         let chain : Last = lastItem within (here .place + 8) in
         let both = both-accepted (itemOutcome own forced h payload chain (walk forced within) here room) (λ n. walk forced behind (after here h payload) (room - n)) rs k e in
         let first : roleOf h ≡ roleOf h → AllStand (both .first) =
         item-accepted (λ role ts j. roleOf h ≡ role → AllStand ts) own forced h payload chain (walk forced within) here room (λ x. none-stand) (λ x. none-stand)
-        (λ some x r m. subst (Stands s) (sym (List·Memᴰ·eq-of-singleton m)) (record { item = n .item; type = type-shown h (here .type) type; row = x }))
+        (λ some x r m. subst (Stands s) (sym (List·Memᴰ·eq-of-singleton m)) (record { item = item; type = type-shown h (here .type) type; row = x }))
         (λ group ts j q x. inner (inside here group) (endAt (here .place) h) room ts j (n .inner) tt q)
         (roleOf h) (both .first) (both .first-headers) (both .is-first) in
-        let second = rest (after here h payload) end (room - length (both .first)) (both .second) (both .second-headers) (n .rest) (type-after h payload here (n .item) type) (both .is-second) in
+        let second = rest (after here h payload) end (room - length (both .first)) (both .second) (both .second-headers) (n .rest) (type-after h payload here item type) (both .is-second) in
         rw (both .records) (both-stand (both .first) (both .second) (first refl) second)
 
     standing : (level : Level) → Standing level

@@ -2,7 +2,7 @@
 -- many headers it read: one for each outermost item and two for each item below; with a forced group, one for each item."
 -- Assumes nothing: these are definitions.
 use Prim.Native.Nat.{ℕ, _+_, _-_, _*_}
-use mathlib.Core.List.{List, []}
+use mathlib.Core.List.{[]}
 use mathlib.Core.Bool.{Bool, true, false}
 use Rattle.klv.specs.Level.{Level, left, broken, node}
 use Rattle.reading.specs.Refusal.{pastEnd}
