@@ -15,8 +15,9 @@ use Rattle.reading.specs.Record.{Record}
 use Rattle.reading.specs.Walk.{Role, empty, container, typeItem, rowItem, roleOf, headersFor, Spot, outermost, inside, after, recordOf, Entry, enter, refuse, entry}
 use Rattle.reading.specs.Walk.{Outcome, accepted, refused, inFront, andThen, around, rowOutcome, entered, byRole, itemOutcome, walk, readingOf}
 use Rattle.reading.specs.Count.{chainReads, readsAt, walkCounting, itemsOn, inContainer, itemsBelow, headersByItems}
-use Rattle.reading.proofs.Outcome.{in-front-none, both-accepted, item-accepted}
+use Rattle.reading.proofs.Outcome.{in-front-none}
 use Rattle.reading.proofs.Payload.{read-accepted}
+use Rattle.reading.proofs.Walk.{item-accepted, node-accepted}
 
 -- ---- by the items
 
@@ -36,16 +37,15 @@ module _ (forced : Bool) where
       → k ≡ headersFor forced (here .depth) * itemsOn level + headersFor forced 1 * itemsBelow level
 
   counts-node : (h : KLV) (payload : List ℕ) (within behind : Level) → Counts within → Counts behind → Counts (node h payload within behind)
-  unfolding walk itemOutcome itemsOn itemsBelow
+  unfolding itemsOn itemsBelow
   counts-node h payload within behind inner rest here room rs k e =
       let own : ℕ = headersFor forced (here .depth) in
       let n : ℕ = itemsOn within + itemsBelow within in
-      let chain : Last = lastItem within (here .place + 8) in
-      let both = both-accepted (itemOutcome own forced h payload chain (walk forced within) here room) (λ n. walk forced behind (after here h payload) (room - n)) rs k e in
+      let both = node-accepted forced h payload within here room behind rs k e in
       let first : both .first-headers ≡ own + headersFor forced 1 * inContainer (roleOf h) n =
-      item-accepted (λ role ts j. j ≡ own + headersFor forced 1 * inContainer role n) own forced h payload chain (walk forced within) here room (omega arith) (omega arith) (λ m. omega arith)
+      item-accepted forced h payload within here room (λ role ts j. j ≡ own + headersFor forced 1 * inContainer role n) (omega arith) (omega arith) (λ some. omega arith)
       (λ group ts j q. ap (λ (x : ℕ). own + x) (inner (inside here group) room ts j q) ∙ rw (below (here .depth)) (omega arith))
-      (roleOf h) (both .first) (both .first-headers) (both .is-first) in
+      (both .first) (both .first-headers) (both .is-first) in
       let second = rest (after here h payload) (room - length (both .first)) (both .second) (both .second-headers) (both .is-second) in
       both .headers-are ∙ rw (first, second) (omega arith)
 

@@ -15,14 +15,13 @@ use Rattle.klv.specs.Level.{Level, left, broken, node, itemsOf}
 use Rattle.klv.proofs.Item.{item-lengths}
 use Rattle.klv.proofs.Level.{items-first, items-none, Comes, of-node}
 use Rattle.reading.specs.Refusal.{Refusal, mostBytes}
-use Rattle.reading.specs.Last.{lastItem}
 use Rattle.reading.specs.Record.{Record}
-use Rattle.reading.specs.Walk.{roleOf, headersFor, Spot, outermost, after, Outcome, accepted, refused, inFront, andThen, itemOutcome, walk, readingOf}
+use Rattle.reading.specs.Walk.{Spot, outermost, after, Outcome, accepted, refused, inFront, andThen, walk, walkItem, readingOf}
 use Rattle.reading.specs.Count.{headersByItems}
 use Rattle.reading.specs.Front.{madeBefore, recordsBefore}
 use Rattle.reading.proofs.Cut.{first-front}
-use Rattle.reading.proofs.Outcome.{both-accepted, in-front-refused, item-refused}
 use Rattle.reading.proofs.Payload.{read-long, read-within, read-accepted}
+use Rattle.reading.proofs.Walk.{NodeRefused, item-is, rest-is, node-accepted, node-refused}
 use Rattle.reading.proofs.Count.{by-items}
 
 module _ (forced : Bool) where
@@ -31,10 +30,6 @@ module _ (forced : Bool) where
     from : here .place ≤ p
     headers : ℕ
     accepts : walk forced (itemsOf (take (p - here .place) s)) here room ≡ accepted (madeBefore p forced level here room) headers
-
-  -- the item at the head of a level, as the walk comes to it
-  abbrev here-is : KLV → List ℕ → Level → Spot → ℕ → Outcome
-  here-is h payload within here room = itemOutcome (headersFor forced (here .depth)) forced h payload (lastItem within (here .place + 8)) (walk forced within) here room
 
   none-before : (level : Level) (here : Spot) (room p : ℕ) → p ≡ here .place → madeBefore p forced level here room ≡ []
   unfolding madeBefore
@@ -51,7 +46,7 @@ module _ (forced : Bool) where
 
   -- an item that was accepted stands before what is alone behind it
   behind-it : (s : List ℕ) (here : Spot) (room p : ℕ) (h : KLV) (payload rest : List ℕ) (behind : Level) (ts : List Record) (j : ℕ) → firstItem s ≡ item h payload rest
-      → here-is h payload (itemsOf payload) here room ≡ accepted ts j
+      → walkItem forced h payload (itemsOf payload) here room ≡ accepted ts j
       → Alone behind rest (after here h payload) (room - length ts) p → Alone (node h payload (itemsOf payload) behind) s here room p
   unfolding walk madeBefore
   behind-it s here room p h payload rest behind ts j first made alone =
@@ -70,24 +65,27 @@ module _ (forced : Bool) where
             ∙ rw (before, made);
       }
 
-  alone : (level : Level) (s : List ℕ) (here : Spot) (room : ℕ) (why : Refusal) (p : ℕ) → itemsOf s ≡ level → walk forced level here room ≡ refused why p → Alone level s here room p
-  unfolding walk itemOutcome
-  alone (left n) s here room why p t e = let o : _≡_ {A = ℕ} 0 1 = cc in absurd (omega arith)
-  alone broken s here room why p t e = at-once broken s here room p (cc)
-  alone (node h payload within behind) s here room why p t e = go (alone behind) (here-is h payload within here room) refl e
+  abbrev Fronted : Level → Type 0
+  Fronted level =
+      (s : List ℕ) (here : Spot) (room : ℕ) (why : Refusal) (p : ℕ) → itemsOf s ≡ level → walk forced level here room ≡ refused why p → Alone level s here room p
+
+  fronted-node : (h : KLV) (payload : List ℕ) (within behind : Level) → Fronted behind → Fronted (node h payload within behind)
+  fronted-node h payload within behind rest s here room why p t e = go (node-refused forced h payload within here room behind why p e)
     where
       w : Comes s h payload within behind
       w = of-node s h payload within behind t
 
-      go : ((s : List ℕ) (here : Spot) (room : ℕ) (why : Refusal) (p : ℕ) → itemsOf s ≡ behind → walk forced behind here room ≡ refused why p → Alone behind s here room p)
-          → (o : Outcome) → here-is h payload within here room ≡ o → andThen o (λ n. walk forced behind (after here h payload) (room - n)) ≡ refused why p → Alone (node h payload within behind) s here room p
-      go rest (refused y at) k e′ =
-          let own : at ≡ here .place = item-refused (headersFor forced (here .depth)) forced h payload (lastItem within (here .place + 8)) (walk forced within) here room (roleOf h) y at k in
-          at-once (node h payload within behind) s here room p (cc)
-      go rest (accepted ts j) k e′ =
-          let later = in-front-refused ts j (walk forced behind (after here h payload) (room - length ts)) why p e′ in
-          let there = rest (w .rest) (after here h payload) (room - length ts) why p (w .is-behind) later in
-          rw (← w .is-inside) (behind-it s here room p h payload (w .rest) behind ts j (w .is-item) (rw (w .is-inside) k) there)
+      go : NodeRefused forced h payload within here room behind why p → Alone (node h payload within behind) s here room p
+      go (item-is place) = at-once (node h payload within behind) s here room p place
+      go (rest-is ts j made stops) =
+          let there = rest (w .rest) (after here h payload) (room - length ts) why p (w .is-behind) stops in
+          rw (← w .is-inside) (behind-it s here room p h payload (w .rest) behind ts j (w .is-item) (rw (w .is-inside) made) there)
+
+  fronted : (level : Level) → Fronted level
+  unfolding walk
+  fronted (left n) = λ s here room why p t e. (let o : _≡_ {A = ℕ} 0 1 = cc in absurd (omega arith))
+  fronted broken = λ s here room why p t e. at-once broken s here room p (cc)
+  fronted (node h payload within behind) = fronted-node h payload within behind (fronted behind)
 
   -- ---- the records made before the end are all of them
 
@@ -97,11 +95,11 @@ module _ (forced : Bool) where
       → madeBefore p forced level here room ≡ rs
 
   whole-node : (h : KLV) (payload : List ℕ) (within behind : Level) → Whole behind → Whole (node h payload within behind)
-  unfolding walk madeBefore
+  unfolding madeBefore
   whole-node h payload within behind rest s here room p rs k t reach e =
       let w = of-node s h payload within behind t in
       let n = item-lengths s h payload (w .rest) (w .is-item) in
-      let both = both-accepted (here-is h payload within here room) (λ n. walk forced behind (after here h payload) (room - n)) rs k e in
+      let both = node-accepted forced h payload within here room behind rs k e in
       let end : here .place + length s ≤ p = reach (omega (arith, n .payload)) in
       let before : ltb (here .place) p ≡ true = lt-ltb (here .place) p (omega (arith, n .payload)) in
       let made = both .is-first in
@@ -134,7 +132,7 @@ front-rule forced s room why p e = go (decLe (length s) mostBytes)
         ∙ ap (accepted (recordsBefore p forced s room)) (by-items forced (itemsOf (take p s)) room (recordsBefore p forced s room) (a .headers) walked)
 
     go : Dec (length s ≤ mostBytes) → readingOf forced (take p s) room ≡ accepted (recordsBefore p forced s room) (headersByItems forced (itemsOf (take p s)))
-    go (yes l) = as-read-alone (simp length-take (omega arith)) (alone forced (itemsOf s) s outermost room why p refl (sym (read-within forced s room l) ∙ e))
+    go (yes l) = as-read-alone (simp length-take (omega arith)) (fronted forced (itemsOf s) s outermost room why p refl (sym (read-within forced s room l) ∙ e))
     go (no l) =
         let long = read-long forced s room (omega arith) in
         let start : p ≡ 0 = cc in

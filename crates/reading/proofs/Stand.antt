@@ -1,6 +1,6 @@
 -- Each record of an accepted reading says what stands at its places: its header and its payload are those of the whole item there, and the TYPE in
 -- force is a whole TYPE item of one text with payload. Assumes nothing.
-use Prim.Native.Nat.{ℕ, _+_, _-_}
+use Prim.Native.Nat.{ℕ, _-_}
 use Prim.Native.Char.{code}
 use mathlib.Core.Path.{_≡_, refl, sym, subst}
 use mathlib.Core.Logic.{_≢_, ⊎-elim}
@@ -15,12 +15,11 @@ use Rattle.klv.specs.Header.{headerAt}
 use Rattle.klv.specs.Item.{dataLen, payloadAt, endAt}
 use Rattle.klv.specs.OneText.{typeText}
 use Rattle.klv.specs.Level.{Level, left, broken, node, itemsOf}
-use Rattle.reading.specs.Last.{Last, lastItem}
 use Rattle.reading.specs.Record.{TypeInForce, noType, typeAt, Record}
-use Rattle.reading.specs.Walk.{Role, empty, container, typeItem, rowItem, roleOf, headersFor, Spot, outermost, inside, typeAfter, after, typeShown, accepted, itemOutcome, walk, readingOf}
+use Rattle.reading.specs.Walk.{Role, empty, container, typeItem, rowItem, roleOf, Spot, outermost, inside, typeAfter, after, typeShown, accepted, walk, readingOf}
 use Rattle.reading.specs.Place.{levelAt}
-use Rattle.reading.proofs.Outcome.{both-accepted, item-accepted}
 use Rattle.reading.proofs.Payload.{read-accepted}
+use Rattle.reading.proofs.Walk.{item-accepted, node-accepted}
 use Rattle.reading.proofs.Place.{node-there, whole-level}
 use Rattle.reading.proofs.Role.{Means, role-means}
 
@@ -80,18 +79,15 @@ module _ (s : List ℕ) where
         (here : Spot) (end room : ℕ) (rs : List Record) (k : ℕ) → levelAt s (here .place) end ≡ level → InForceStands s (here .type) → walk forced level here room ≡ accepted rs k → AllStand rs
 
     standing-node : (h : KLV) (payload : List ℕ) (within behind : Level) → Standing within → Standing behind → Standing (node h payload within behind)
-    unfolding walk itemOutcome
     standing-node h payload within behind inner rest here end room rs k t type e =
         let n = node-there s (here .place) end h payload within behind t in
         let item : ItemStands s (here .place) h payload = record { header = n .there .whole; payload-is = n .payload-is } in
-        let own : ℕ = headersFor forced (here .depth) in
-        let chain : Last = lastItem within (here .place + 8) in
-        let both = both-accepted (itemOutcome own forced h payload chain (walk forced within) here room) (λ n. walk forced behind (after here h payload) (room - n)) rs k e in
+        let both = node-accepted forced h payload within here room behind rs k e in
         let first : roleOf h ≡ roleOf h → AllStand (both .first) =
-        item-accepted (λ role ts j. roleOf h ≡ role → AllStand ts) own forced h payload chain (walk forced within) here room (λ x. none-stand) (λ x. none-stand)
+        item-accepted forced h payload within here room (λ role ts j. roleOf h ≡ role → AllStand ts) (λ x. none-stand) (λ x. none-stand)
         (λ some x r m. subst (Stands s) (sym (List·Memᴰ·eq-of-singleton m)) (record { item = item; type = type-shown h (here .type) type; row = x }))
         (λ group ts j q x. inner (inside here group) (endAt (here .place) h) room ts j (n .inner) tt q)
-        (roleOf h) (both .first) (both .first-headers) (both .is-first) in
+        (both .first) (both .first-headers) (both .is-first) in
         let second = rest (after here h payload) end (room - length (both .first)) (both .second) (both .second-headers) (n .rest) (type-after h payload here item type) (both .is-second) in
         rw (both .records) (both-stand (both .first) (both .second) (first refl) second)
 

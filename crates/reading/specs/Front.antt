@@ -1,14 +1,13 @@
 -- What the walk has made when it comes to a place. Document 01, Refusal numbers: a refusal's place is the start of an outermost item, so
 -- the items in front of it were walked. Assumes nothing: these are definitions.
-use Prim.Native.Nat.{ℕ, _+_, _-_}
+use Prim.Native.Nat.{ℕ, _-_}
 use mathlib.Core.List.{List, [], _++_}
 use mathlib.Core.Bool.{Bool, cond}
 use lib.Dec.{ltb}
 use lib.ListN.{length}
 use Rattle.klv.specs.Level.{Level, left, broken, node, itemsOf}
-use Rattle.reading.specs.Last.{lastItem}
 use Rattle.reading.specs.Record.{Record}
-use Rattle.reading.specs.Walk.{Spot, outermost, after, headersFor, Outcome, accepted, refused, itemOutcome, walk}
+use Rattle.reading.specs.Walk.{Spot, outermost, after, Outcome, accepted, refused, walkItem}
 
 -- the records of an item, then those of the items behind it, which have the room that it left
 abbrev pub thenMade : Outcome → (ℕ → List Record) → List Record
@@ -21,8 +20,7 @@ madeBefore place forced (left n) here room = []
 madeBefore place forced broken here room = []
 madeBefore place forced (node h payload within behind) here room =
     cond (ltb (here .place) place)
-    (thenMade (itemOutcome (headersFor forced (here .depth)) forced h payload (lastItem within (here .place + 8)) (walk forced within) here room)
-    (λ n. madeBefore place forced behind (after here h payload) (room - n)))
+    (thenMade (walkItem forced h payload within here room) (λ n. madeBefore place forced behind (after here h payload) (room - n)))
     []
 
 -- THE RECORDS that the walk of a payload has made before a place
