@@ -14,7 +14,7 @@ use Rattle.klv.specs.Item.{dataLen, aligned, item, firstItem, nextAt}
 use Rattle.klv.specs.Level.{Level, left, broken, node, itemsOf}
 use Rattle.klv.proofs.Item.{item-lengths}
 use Rattle.klv.proofs.Level.{items-first, items-none, Comes, of-node}
-use Rattle.reading.specs.Refusal.{Refusal, mostBytes}
+use Rattle.reading.specs.Refusal.{Refusal}
 use Rattle.reading.specs.Record.{Record}
 use Rattle.reading.specs.Walk.{Spot, outermost, after, Outcome, accepted, refused, inFront, andThen, walk, walkItem, readingOf}
 use Rattle.reading.specs.Count.{headersByItems}
@@ -120,9 +120,9 @@ all-records forced s room rs headers e = whole forced (itemsOf s) s outermost ro
 -- THE FRONT RULE
 pub front-rule : (forced : Bool) (s : List ℕ) (room : ℕ) (why : Refusal) (p : ℕ) → readingOf forced s room ≡ refused why p
     → readingOf forced (take p s) room ≡ accepted (recordsBefore p forced s room) (headersByItems forced (itemsOf (take p s)))
-front-rule forced s room why p e = go (decLe (length s) mostBytes)
+front-rule forced s room why p e = go (decLe (length s) 1048576)
   where
-    as-read-alone : length (take p s) ≤ mostBytes → Alone forced (itemsOf s) s outermost room p
+    as-read-alone : length (take p s) ≤ 1048576 → Alone forced (itemsOf s) s outermost room p
         → readingOf forced (take p s) room ≡ accepted (recordsBefore p forced s room) (headersByItems forced (itemsOf (take p s)))
     as-read-alone short a =
         let whole : p - 0 ≡ p = omega arith in
@@ -131,7 +131,7 @@ front-rule forced s room why p e = go (decLe (length s) mostBytes)
         ∙ walked
         ∙ ap (accepted (recordsBefore p forced s room)) (by-items forced (itemsOf (take p s)) room (recordsBefore p forced s room) (a .headers) walked)
 
-    go : Dec (length s ≤ mostBytes) → readingOf forced (take p s) room ≡ accepted (recordsBefore p forced s room) (headersByItems forced (itemsOf (take p s)))
+    go : Dec (length s ≤ 1048576) → readingOf forced (take p s) room ≡ accepted (recordsBefore p forced s room) (headersByItems forced (itemsOf (take p s)))
     go (yes l) = as-read-alone (simp length-take (omega arith)) (fronted forced (itemsOf s) s outermost room why p refl (sym (read-within forced s room l) ∙ e))
     go (no l) =
         let long = read-long forced s room (omega arith) in

@@ -12,7 +12,6 @@ use Rattle.klv.specs.Header.{headerAt}
 use Rattle.klv.specs.Item.{First, few, past, item, firstItem, nextAt}
 use Rattle.klv.specs.Level.{Level, left, broken, node, levelFrom, itemsOf}
 use Rattle.klv.proofs.Level.{items-eq}
-use Rattle.reading.specs.Refusal.{mostBytes}
 use Rattle.reading.specs.Last.{Last, none, last, stopped, orElse, lastItem, lastReading}
 use Rattle.reading.specs.Place.{levelAt}
 use Rattle.reading.proofs.Payload.{last-long, last-within}
@@ -66,8 +65,8 @@ module _ (s : List ℕ) (end : ℕ) (in-s : end ≤ length s) where
 
 -- THE LAST ITEM of a payload stands at its place
 pub last-stands : (s : List ℕ) (at : ℕ) (h : KLV) → lastReading s ≡ last at h → LastStands s (length s) at h
-last-stands s at h e = go (decLe (length s) mostBytes)
+last-stands s at h e = go (decLe (length s) 1048576)
   where
-    go : Dec (length s ≤ mostBytes) → LastStands s (length s) at h
+    go : Dec (length s ≤ 1048576) → LastStands s (length s) at h
     go (yes l) = stands s (length s) (omega arith) (itemsOf s) 0 at h (whole-level s) (sym (last-within s l) ∙ e)
     go (no l) = let long = last-long s (omega arith) in let o : _≡_ {A = ℕ} 0 1 = cc in absurd (omega arith)
