@@ -19,6 +19,7 @@ use Rattle.klv.specs.OneText.{oneText, typeText}
 use Rattle.reading.specs.Last.{lastItem, lastReading}
 use Rattle.reading.specs.Record.{numbers, noPlace}
 use Rattle.reading.specs.Walk.{roleOf, itemOutcome, walk, readingOf}
+use Rattle.reading.specs.Front.{madeBefore, recordsBefore}
 use Rattle.reading.specs.Answer.{Answer, rows, noItem, theItem, refusal, answer, lastAnswer}
 
 -- ---- payloads
@@ -30,12 +31,18 @@ header k letter size repeat = record { key = key k; «data_type» = letter; size
 abbrev item : String → ℕ → ℕ → ℕ → List ℕ → List ℕ
 item k letter size repeat payload = laidOut (header k letter size repeat) payload []
 
--- a container whose payload is shorter than 256 bytes
+-- a container
 abbrev holding : String → List ℕ → List ℕ
 holding k payload = item k 0 1 (length payload) payload
 
+abbrev four : List ℕ
+four = 1 ∷ 2 ∷ 3 ∷ 4 ∷ []
+
 abbrev five : List ℕ
-five = 1 ∷ 2 ∷ 3 ∷ 4 ∷ 5 ∷ []
+five = four ++ 5 ∷ []
+
+abbrev seven : List ℕ
+seven = five ++ 6 ∷ 7 ∷ []
 
 abbrev padding : List ℕ
 padding = 0 ∷ 0 ∷ 0 ∷ []
@@ -56,21 +63,28 @@ described = item "ABCD" (code "?") 1 1 (9 ∷ []) ++ padding
 abbrev twelve : List ℕ
 twelve = bytesOf 28 0x5354524d_00_01_0014_5343414c_73_02_0001_00010000_4759524f_73_06_0000
 
+-- a row, in the order of document 01
+abbrev row : ℕ → ℕ → ℕ → ℕ → ℕ → ℕ → ℕ → ℕ → List ℕ
+row place kind group tag k shape type depth = place ∷ kind ∷ group ∷ tag ∷ k ∷ shape ∷ type ∷ depth ∷ []
+
 -- ---- cases
 
 pub data Case : Type 0 where
   reads : List ℕ → Bool → Answer → Case  -- a payload, whether the caller's group is forced, and what the reading comes to
   chains : List ℕ → Answer → Case  -- a payload, and what its last item comes to
+  before : List ℕ → ℕ → List (List ℕ) → Case  -- a payload, a place, and the rows that the walk has made before it
 
 -- what the definitions come to, with room for two records
 abbrev pub comes : Case → Answer
 comes (reads payload forced said) = answer (readingOf forced payload 2)
 comes (chains payload said) = lastAnswer (lastReading payload)
+comes (before payload place said) = rows (map numbers (recordsBefore place false payload 2)) 0
 
 -- what document 01 says
 abbrev pub says : Case → Answer
 says (reads payload forced said) = said
 says (chains payload said) = said
+says (before payload place said) = rows said 0
 
 abbrev pub cases : List Case
 cases =
@@ -78,23 +92,23 @@ cases =
     reads [] false (rows [] 0)
     ∷ chains [] noItem
     -- 2
-    ∷ reads (0 ∷ 0 ∷ 0 ∷ 0 ∷ 0 ∷ 0 ∷ 0 ∷ []) false (rows [] 0)
-    ∷ chains (0 ∷ 0 ∷ 0 ∷ 0 ∷ 0 ∷ 0 ∷ 0 ∷ []) (refusal 3 0)
+    ∷ reads seven false (rows [] 0)
+    ∷ chains seven (refusal 3 0)
     -- 3
-    ∷ reads (item "ABCD" (code "B") 5 1 five) false (rows ((0 ∷ 0 ∷ 0 ∷ 0 ∷ key "ABCD" ∷ 0x42_05_0001 ∷ noPlace ∷ 0 ∷ []) ∷ []) 1)
+    ∷ reads (item "ABCD" (code "B") 5 1 five) false (rows (row 0 0 0 0 (key "ABCD") 0x42_05_0001 noPlace 0 ∷ []) 1)
     -- 4
     ∷ reads (item "ABCD" (code "B") 6 1 five) false (refusal 2 0)
     -- 5
     ∷ reads (item "GYRO" (code "s") 6 0 []) false (rows [] 1)
     ∷ chains (item "GYRO" (code "s") 6 0 []) (theItem 0 (header "GYRO" (code "s") 6 0))
     -- 6
-    ∷ reads (holding "STRM" (1 ∷ 2 ∷ 3 ∷ 4 ∷ [])) false (refusal 3 0)
-    ∷ reads (holding "STRM" (1 ∷ 2 ∷ 3 ∷ 4 ∷ [])) true (rows [] 1)
+    ∷ reads (holding "STRM" four) false (refusal 3 0)
+    ∷ reads (holding "STRM" four) true (rows [] 1)
     -- 11
-    ∷ reads (round 16 (item "GYRO" (code "B") 1 1 (7 ∷ []))) false (rows ((128 ∷ 1 ∷ key "GYRO" ∷ 1 ∷ key "GYRO" ∷ 0x42_01_0001 ∷ noPlace ∷ 16 ∷ []) ∷ []) 33)
+    ∷ reads (round 16 (item "GYRO" (code "B") 1 1 (7 ∷ []))) false (rows (row 128 1 (key "GYRO") 1 (key "GYRO") 0x42_01_0001 noPlace 16 ∷ []) 33)
     ∷ reads (round 17 (item "GYRO" (code "B") 1 1 (7 ∷ []))) false (refusal 4 0)
     -- 12
-    ∷ reads twelve false (rows ((8 ∷ 1 ∷ key "GYRO" ∷ 4 ∷ key "SCAL" ∷ 0x73_02_0001 ∷ noPlace ∷ 1 ∷ []) ∷ []) 5)
+    ∷ reads twelve false (rows (row 8 1 (key "GYRO") 4 (key "SCAL") 0x73_02_0001 noPlace 1 ∷ []) 5)
     ∷ []
 
 pub as-document-01-says : map comes cases ≡ map says cases
@@ -103,45 +117,48 @@ as-document-01-says = refl
 
 -- ---- samples
 
--- the row of a `?` item of one byte: its place, its group, the place of the TYPE in force, its depth
-abbrev row : ℕ → ℕ → ℕ → ℕ → ℕ → List ℕ
-row place kind group type depth = place ∷ kind ∷ group ∷ 0 ∷ key "ABCD" ∷ 0x3f_01_0001 ∷ type ∷ depth ∷ []
+-- the row of that `?` item
+abbrev question : ℕ → ℕ → ℕ → ℕ → ℕ → List ℕ
+question place kind group type depth = row place kind group 0 (key "ABCD") 0x3f_01_0001 type depth
 
 abbrev pub samples : List Case
 samples =
     -- padding is stepped over between items, and what is missing after the last one is not asked for
-    reads (described ++ item "ABCD" (code "?") 1 1 (9 ∷ [])) false (rows (row 0 0 0 noPlace 0 ∷ row 12 0 0 noPlace 0 ∷ []) 2)
+    reads (described ++ item "ABCD" (code "?") 1 1 (9 ∷ [])) false (rows (question 0 0 0 noPlace 0 ∷ question 12 0 0 noPlace 0 ∷ []) 2)
     ∷ chains (described ++ item "SCAL" (code "B") 1 1 (9 ∷ [])) (theItem 12 (header "SCAL" (code "B") 1 1))
     -- a TYPE is in force for later items of its level, and not for those before it
-    ∷ reads (described ++ describes ++ described) false (rows (row 0 0 0 noPlace 0 ∷ row 24 0 0 12 0 ∷ []) 3)
+    ∷ reads (described ++ describes ++ described) false (rows (question 0 0 0 noPlace 0 ∷ question 24 0 0 12 0 ∷ []) 3)
     -- nor inside a container; behind the container it still is
-    ∷ reads (describes ++ holding "STRM" described ++ described) false (rows (row 20 1 (key "ABCD") noPlace 1 ∷ row 32 0 0 0 0 ∷ []) 5)
+    ∷ reads (describes ++ holding "STRM" described ++ described) false (rows (question 20 1 (key "ABCD") noPlace 1 ∷ question 32 0 0 0 0 ∷ []) 5)
     -- nor after its level
-    ∷ reads (holding "STRM" describes ++ described) false (rows (row 20 0 0 noPlace 0 ∷ []) 4)
+    ∷ reads (holding "STRM" describes ++ described) false (rows (question 20 0 0 noPlace 0 ∷ []) 4)
     -- an empty TYPE is skipped, and a TYPE of two texts is a row
-    ∷ reads (describes ++ item "TYPE" (code "c") 1 0 [] ++ described) false (rows (row 20 0 0 0 0 ∷ []) 3)
-    ∷ reads (item "TYPE" (code "c") 2 2 (characters "BBBB")) false (rows ((0 ∷ 0 ∷ 0 ∷ 0 ∷ key "TYPE" ∷ 0x63_02_0002 ∷ noPlace ∷ 0 ∷ []) ∷ []) 1)
+    ∷ reads (describes ++ item "TYPE" (code "c") 1 0 [] ++ described) false (rows (question 20 0 0 0 0 ∷ []) 3)
+    ∷ reads (item "TYPE" (code "c") 2 2 (characters "BBBB")) false (rows (row 0 0 0 0 (key "TYPE") 0x63_02_0002 noPlace 0 ∷ []) 1)
     -- an item that is no `?` item shows no TYPE
-    ∷ reads (describes ++ item "SCAL" (code "B") 1 1 (9 ∷ [])) false (rows ((12 ∷ 0 ∷ 0 ∷ 4 ∷ key "SCAL" ∷ 0x42_01_0001 ∷ noPlace ∷ 0 ∷ []) ∷ []) 2)
+    ∷ reads (describes ++ item "SCAL" (code "B") 1 1 (9 ∷ [])) false (rows (row 12 0 0 4 (key "SCAL") 0x42_01_0001 noPlace 0 ∷ []) 2)
     -- the caller's group holds throughout where it is forced, and each header is read once
-    ∷ reads (holding "DEVC" (holding "STRM" described)) true (rows (row 16 0 0 noPlace 2 ∷ []) 3)
-    ∷ reads (holding "DEVC" (holding "STRM" described)) false (rows (row 16 1 (key "ABCD") noPlace 2 ∷ []) 5)
+    ∷ reads (holding "DEVC" (holding "STRM" described)) true (rows (question 16 0 0 noPlace 2 ∷ []) 3)
+    ∷ reads (holding "DEVC" (holding "STRM" described)) false (rows (question 16 1 (key "ABCD") noPlace 2 ∷ []) 5)
     -- a refusal inside is placed at the outermost item
-    ∷ reads (described ++ holding "DEVC" (holding "STRM" (1 ∷ 2 ∷ 3 ∷ 4 ∷ []))) false (refusal 3 12)
+    ∷ reads (described ++ holding "DEVC" (holding "STRM" four)) false (refusal 3 12)
     ∷ reads (described ++ holding "DEVC" (item "ABCD" (code "B") 6 1 five)) true (refusal 2 12)
+    -- and the rows before it are those of the items in front of that item
+    ∷ reads (described ++ holding "DEVC" (described ++ holding "STRM" four)) false (refusal 3 12)
+    ∷ before (described ++ holding "DEVC" (described ++ holding "STRM" four)) 12 (question 0 0 0 noPlace 0 ∷ [])
     -- the chain's is where it stops
-    ∷ chains (described ++ 1 ∷ 2 ∷ 3 ∷ []) (refusal 3 12)
+    ∷ chains (described ++ seven) (refusal 3 12)
     ∷ chains (described ++ item "ABCD" (code "B") 6 1 five) (refusal 2 12)
     -- a third row does not fit, at any depth, and its item comes before the next; an empty item and a TYPE take no room
     ∷ reads (described ++ described ++ described) false (refusal 5 24)
     ∷ reads (described ++ holding "STRM" (described ++ described) ++ item "ABCD" (code "B") 6 1 five) false (refusal 5 12)
-    ∷ reads (described ++ described ++ describes ++ item "GYRO" (code "s") 6 0 []) false (rows (row 0 0 0 noPlace 0 ∷ row 12 0 0 noPlace 0 ∷ []) 4)
+    ∷ reads (described ++ described ++ describes ++ item "GYRO" (code "s") 6 0 []) false (rows (question 0 0 0 noPlace 0 ∷ question 12 0 0 noPlace 0 ∷ []) 4)
     -- the depth comes before the chain, and the chain before what is inside; an empty container is skipped at any depth
-    ∷ reads (round 17 (1 ∷ 2 ∷ 3 ∷ 4 ∷ [])) false (refusal 4 0)
-    ∷ reads (holding "DEVC" (holding "STRM" (1 ∷ 2 ∷ 3 ∷ 4 ∷ []) ++ item "ABCD" (code "B") 6 1 five)) false (refusal 2 0)
+    ∷ reads (round 17 four) false (refusal 4 0)
+    ∷ reads (holding "DEVC" (holding "STRM" four ++ item "ABCD" (code "B") 6 1 five)) false (refusal 2 0)
     ∷ reads (round 17 []) false (rows [] 33)
     ∷ []
 
-pub as-it-should : map comes samples ≡ map says samples
-unfolding fix run found tags firstItem itemsOf oneText typeText lastItem lastReading numbers roleOf itemOutcome walk readingOf
-as-it-should = refl
+pub as-its-rules-say : map comes samples ≡ map says samples
+unfolding fix run found tags firstItem itemsOf oneText typeText lastItem lastReading numbers roleOf itemOutcome walk readingOf madeBefore
+as-its-rules-say = refl
