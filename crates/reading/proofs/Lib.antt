@@ -4,6 +4,8 @@ pub mod Payload
 pub mod Role
 pub mod Cut
 pub mod Place
+pub mod Loop
+pub mod Spot
 pub mod Last
 pub mod Row
 pub mod Count
