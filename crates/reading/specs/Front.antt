@@ -1,5 +1,5 @@
--- What the walk has made when it comes to a place. Document 01, Refusal numbers: a refusal's place is the start of an outermost item, so
--- the items in front of it were walked. Assumes nothing: these are definitions.
+-- What the walk has made when it comes to a place: the records of the outermost items in front of it. Document 01, Refusal numbers: "The walk's
+-- place is the start of the outermost item concerned." Assumes nothing: these are definitions.
 use Prim.Native.Nat.{ℕ, _-_}
 use mathlib.Core.List.{List, [], _++_}
 use mathlib.Core.Bool.{Bool, cond}
