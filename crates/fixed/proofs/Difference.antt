@@ -18,7 +18,7 @@ abbrev pub under : ℤ → ℕ
 under (pos n) = 0
 under (negsuc n) = suc n
 
--- ---- `subℕ a b`, the difference a - b, by its sign and by its two parts
+-- ---- the difference a - b, `subℕ a b`, by its sign and by its two parts
 
 pub not-below : (a b : ℕ) → b ≤ a → subℕ a b ≡ pos (a - b)
 not-below a b h = rw (le-ltb a b h)
@@ -43,18 +43,18 @@ parts a b = go (decLt a b)
     go (yes h) = rw (below a b h) (omega arith)
     go (no h) = let k : b ≤ a = omega arith in rw (not-below a b k) (omega arith)
 
--- ---- a range of whole numbers, from -k up to below k (`mag z < k`), by the parts
+-- ---- `mag z < k` says that z is from -k to k - 1
 
 pub sides : (z : ℤ) (k : ℕ) → mag z < k → (over z < k) × (under z ≤ k)
 sides (pos n) k h = (h, omega arith)
 sides (negsuc n) k h = (omega arith, h)
 
-pub ranged : (a b k : ℕ) → a < k → b ≤ k → mag (subℕ a b) < k
-ranged a b k h l = go (decLt a b)
+pub in-range : (a b k : ℕ) → a < k → b ≤ k → mag (subℕ a b) < k
+in-range a b k h l = go (subℕ a b) (parts a b)
   where
-    go : Dec (a < b) → mag (subℕ a b) < k
-    go (yes m) = rw (below a b m) (omega arith)
-    go (no m) = let n : b ≤ a = omega arith in rw (not-below a b n) (omega arith)
+    go : (z : ℤ) → over z + b ≡ a + under z → mag z < k
+    go (pos n) e = omega arith
+    go (negsuc n) e = omega arith
 
 -- ---- the parts of a sum, a product and an opposite
 
@@ -73,7 +73,7 @@ times-parts : (z : ℤ) (k : ℕ) → (over (z *ℤ pos k) ≡ over z * k) × (u
 times-parts (pos n) k = (refl, omega arith)
 times-parts (negsuc n) k = let e = opposite-parts (pos (suc n * k)) in (omega (arith, e .0), omega (arith, e .1))
 
--- ---- so differences are added, multiplied and told apart by their parts
+-- ---- so differences are multiplied, subtracted and compared by their parts
 
 pub product : (a b k : ℕ) → subℕ a b *ℤ pos k ≡ subℕ (a * k) (b * k)
 product a b k =
@@ -88,12 +88,13 @@ difference a b c d =
     let e = opposite-parts w in
     is-difference (z -ℤ w) (a + d) (b + c) (omega (arith, sum-parts z (negℤ w), parts a b, parts c d, e .0, e .1))
 
+-- high + low / d, times d
 pub two-parts : (high : ℤ) (d low : ℕ) → high *ℤ pos d +ℤ pos low ≡ subℕ (over high * d + low) (under high * d)
 two-parts high d low =
     let e = times-parts high d in
     is-difference (high *ℤ pos d +ℤ pos low) (over high * d + low) (under high * d) (omega (arith, sum-parts (high *ℤ pos d) (pos low), e .0, e .1))
 
--- a size with its sign is the size on one side
+-- a size with its sign: the size stands on one side
 abbrev pub plus : Bool → ℕ → ℕ
 plus false n = n
 plus true n = 0
@@ -106,7 +107,7 @@ pub signed-is : (s : Bool) (n : ℕ) → signed s n ≡ subℕ (plus s n) (minus
 signed-is false n = is-difference (pos n) n 0 refl
 signed-is true n = let e = opposite-parts (pos n) in is-difference (negℤ (pos n)) 0 n (omega (arith, e .0, e .1))
 
--- a distance that is at most t / q
+-- a distance of t / q at most
 pub far : (a b q t : ℕ) → a * q ≤ b * q + t → b * q ≤ a * q + t → natAbs (subℕ a b) * q ≤ t
 far a b q t h k = go (subℕ a b) (parts a b)
   where

@@ -3,26 +3,28 @@ use Prim.Native.Nat.{ℕ, suc, _+_, _-_, _*_, _^_, _≤_, _<_}
 use mathlib.Core.Path.{_≡_, sym, ap, _∙_}
 use mathlib.Core.Bool.{Bool, true, false, not}
 use mathlib.Core.Logic.{_⊎_, inl, inr}
-use native.Mathlib.Nat.{eq-or-lt-of-le, le-of-eq, lt-of-lt-of-le, one-mul, mul-assoc}
+use native.Mathlib.Nat.{eq-or-lt-of-le, one-mul, mul-assoc}
 use native.Mathlib.Omega.{arith}
 use lib.IntN.{ℤ, pos, negsuc, natAbs}
 use lib.Signed.{nonNeg}
 use lib.Dec.{lit<, lit≤}
-use lib.Pow.{pow-add, pow-pos, pow-lt, pow-mono, shl-lt}
+use lib.Pow.{pow-add, pow-pos, pow-lt, shl-lt}
 use lib.Ieee.{Format, binary32, binary64, prec, emax, low, round, ofInt}
 use lib.Ieee.Back.{round-whole}
 use lib.Ieee.Exact.{HasValue, round-exact}
 
--- ---- the two formats
+-- ---- of the two formats: more than one digit, ..
 
 one-digit : (f : Format) → 1 < 2 ^ prec f
 one-digit binary32 = lit< tt
 one-digit binary64 = lit< tt
 
+-- .. exponents beyond twice the digits, ..
 pub range : (f : Format) → prec f + prec f ≤ emax f
 range binary32 = lit≤ tt
 range binary64 = lit≤ tt
 
+-- .. and all digits behind the point too
 pub finest : (f : Format) → prec f ≤ low f
 finest binary32 = lit≤ tt
 finest binary64 = lit≤ tt

@@ -1,14 +1,14 @@
 -- How far a float lies from a fraction (a - b) / c, over natural numbers, and what that says over whole ones. Assumes nothing.
 use Prim.Native.Nat.{ℕ, _+_, _*_, _≤_, _<_}
-use mathlib.Core.Path.{_≡_, refl, sym, ap, _∙_, subst}
+use mathlib.Core.Path.{_≡_, ap}
 use mathlib.Core.Bool.{Bool, true, false}
 use native.Mathlib.Nat.{le-of-mul-le-mul-right, mul-le-mul-right, zero-mul}
 use native.Mathlib.Omega.{arith}
-use lib.IntN.{ℤ, pos, natAbs, subℕ, _-ℤ_, _*ℤ_}
+use lib.IntN.{pos, natAbs, subℕ, _-ℤ_, _*ℤ_}
 use lib.Ieee.{Float, nan, inf, fin, up, down}
 use lib.Ieee.Exact.{HasValue}
 use Rattle.fixed.specs.declared.Exact.{Exact}
-use Rattle.fixed.specs.Distance.{signed, Same, Apart, Is, Within}
+use Rattle.fixed.specs.Distance.{signed, Equals, Within}
 use Rattle.fixed.proofs.Difference.{plus, minus, signed-is, product, difference, far}
 
 -- ---- fractions
@@ -17,13 +17,10 @@ use Rattle.fixed.proofs.Difference.{plus, minus, signed-is, product, di
 abbrev pub Above : (a b c x y z p q : ℕ) → Type 0
 Above a b c x y z p q = (a * z + y * c) * q ≤ (b * z + x * c) * q + p * (c * z)
 
--- and it is below it by that at most: the two are at most p / q apart
+-- and below it by that at most: the two are at most p / q apart
 pub record Close (a b c x y z p q : ℕ) : Type 0 where
   pub above : Above a b c x y z p q
   pub below : Above b a c y x z p q
-
-pub opposite : {a b c x y z p q : ℕ} → Close a b c x y z p q → Close b a c y x z p q
-opposite h = record { above = h .below; below = h .above }
 
 -- distances add up
 sum-above : (a b c x y z u v w p r q : ℕ) → 0 < z → Above a b c x y z p q → Above x y z u v w r q → Above a b c u v w (p + r) q
@@ -57,7 +54,7 @@ Sized nan s n c p q = ⊥
 Sized (inf t) s n c p q = ⊥
 Sized (fin t m e) s n c p q = (t ≡ s) × Close (m * up e) 0 (down e) n 0 c p q
 
--- where that size with its sign is a - b
+-- and where that size with its sign is a - b, x is near it
 pub near-of-size : (x : Float) (s : Bool) (n a b c p q : ℕ) → plus s n + b ≡ a + minus s n → Sized x s n c p q → Near x a b c p q
 near-of-size nan s n a b c p q e h = h
 near-of-size (inf t) s n a b c p q e h = h
@@ -67,7 +64,7 @@ near-of-size (fin t m i) s n a b c p q e h = rw (h .0) (side s e (h .1))
     side false e k = let l = ap (λ (z : ℕ). z * (down i * q)) e in omega arith
     side true e k = let l = ap (λ (z : ℕ). z * (down i * q)) e in omega arith
 
--- ---- over whole numbers
+-- ---- the same over whole numbers, as specs/Distance.antt says it
 
 pub within : (x : Float) (a b c p q : ℕ) → Near x a b c p q → Within x (record { numerator = subℕ a b; denominator = c }) p q
 within nan a b c p q h = h
@@ -86,10 +83,11 @@ looser (fin s m e) a p q u v Q k h =
     let g : natAbs (signed s (m * up e) *ℤ pos (a .denominator) -ℤ a .numerator *ℤ pos (down e)) * v * q ≤ u * (down e * a .denominator) * q = omega arith in
     le-of-mul-le-mul-right g Q
 
-pub is : (x : Float) (s : Bool) (n c : ℕ) → HasValue x s n c → Is x (record { numerator = signed s n; denominator = c })
-is nan s n c h = h
-is (inf t) s n c h = h
-is (fin t m e) s n c h =
+-- a float that has a value is the number of that value
+pub equals : (x : Float) (s : Bool) (n c : ℕ) → HasValue x s n c → Equals x (record { numerator = signed s n; denominator = c })
+equals nan s n c h = h
+equals (inf t) s n c h = h
+equals (fin t m e) s n c h =
     rw (h .0, signed-is s (m * up e), signed-is s n, product (plus s (m * up e)) (minus s (m * up e)) c, product (plus s n) (minus s n) (down e)) (side s)
   where
     side : (s : Bool) → subℕ (plus s (m * up e) * c) (minus s (m * up e) * c) ≡ subℕ (plus s n * down e) (minus s n * down e)

@@ -1,19 +1,20 @@
 -- A fraction (a - b) / c rounded once: by its sign, alike for equal fractions, and off by half a unit at most. Assumes nothing.
 use Prim.Native.Nat.{ℕ, suc, _+_, _-_, _*_, _^_, _≤_, _<_}
-use mathlib.Core.Path.{_≡_, refl, sym, ap, _∙_}
+use mathlib.Core.Path.{_≡_, sym, ap, _∙_}
 use mathlib.Core.Bool.{true, false}
 use native.Mathlib.Decide.{decLt}
-use native.Mathlib.Nat.{add-zero, mul-le-mul-right, mul-lt-mul-of-pos-right, lt-of-mul-lt-mul-right, le-of-mul-le-mul-right}
+use native.Mathlib.Nat.{mul-le-mul-right, mul-lt-mul-of-pos-right, lt-of-mul-lt-mul-right, le-of-mul-le-mul-right}
 use native.Mathlib.Omega.{arith}
 use lib.IntN.{ℤ, subℕ}
 use lib.Ieee.{Float, Format, prec, emax, round}
 use lib.Ieee.Scale.{round-same}
-use Rattle.fixed.specs.declared.Exact.{Exact}
 use Rattle.fixed.specs.Distance.{rounded}
-use Rattle.fixed.specs.Fixed.{exactly}
+use Rattle.fixed.specs.Fixed.{exactForm}
 use Rattle.fixed.proofs.Difference.{over, under, below, not-below, two-parts}
-use Rattle.fixed.proofs.Near.{Near, near-by, near-of-size}
+use Rattle.fixed.proofs.Near.{Near, near-of-size}
 use Rattle.fixed.proofs.Rounding.{half-unit}
+
+-- ---- by its sign
 
 abbrev pub once : Format → ℕ → ℕ → ℕ → Float
 once f a b c = rounded f (record { numerator = subℕ a b; denominator = c })
@@ -65,5 +66,5 @@ once-near f a b c j C h k J = go (decLt a b)
 
 -- ---- two parts
 
-pub exactly-once : (f : Format) (d low : ℕ) (high : ℤ) → rounded f (exactly d high low) ≡ once f (over high * d + low) (under high * d) d
-exactly-once f d low high = ap (λ (z : ℤ). rounded f (record { numerator = z; denominator = d })) (two-parts high d low)
+pub exact-form-once : (f : Format) (d low : ℕ) (high : ℤ) → rounded f (exactForm d high low) ≡ once f (over high * d + low) (under high * d) d
+exact-form-once f d low high = ap (λ (z : ℤ). rounded f (record { numerator = z; denominator = d })) (two-parts high d low)

@@ -4,47 +4,48 @@ use mathlib.Core.Path.{_≡_, refl, ap, _∙_}
 use mathlib.Core.Bool.{false}
 use native.Mathlib.Omega.{arith}
 use lib.Dec.{lit<, lit≤}
-use lib.IntN.{ℤ, pos, negsuc, natAbs}
+use lib.IntN.{ℤ, pos, natAbs}
 use lib.Signed.{mag, natAbs-le}
 use lib.Ieee.{fin, binary32, add, div, ofInt}
-use Rattle.fixed.specs.Distance.{Is, Within, rounded}
-use Rattle.fixed.specs.Fixed.{exactly, quotient, q15-16, q15-16-exact}
-use Rattle.fixed.specs.Laws.{Parts15-16, ExactDivision, RoundedOnce, ExactNearZero, NoWider, Within1024th, Attained}
-use Rattle.fixed.proofs.Near.{is, looser}
+use Rattle.fixed.specs.Distance.{Equals, Within, rounded}
+use Rattle.fixed.specs.Fixed.{divisor15-16, exactForm, quotient, q15-16, q15-16-exact}
+use Rattle.fixed.specs.Laws.{Parts15-16, ExactDivision, RoundedOnce, ExactSum, NoWider, Within1024th, Attained}
+use Rattle.fixed.proofs.Near.{equals, looser}
 use Rattle.fixed.proofs.PowerOfTwo.{quotient-exact, reading-once}
 use Rattle.fixed.proofs.Range.{bounded, ranged}
 use Rattle.fixed.proofs.TwoParts.{two-parts-is, two-parts-within}
 
 pub exact-division : ExactDivision
-exact-division low h = is (quotient binary32 65536 low) false low 65536 (quotient-exact binary32 16 low (lit≤ tt) (omega arith))
+exact-division low h = equals (quotient binary32 divisor15-16 low) false low divisor15-16 (quotient-exact binary32 16 low (lit≤ tt) (omega arith))
 
 pub rounded-once : RoundedOnce
 unfolding q15-16 q15-16-exact
 rounded-once high low h =
-    let m : mag high < 32768 = bounded 32767 high (h .signed) in
+    let m : mag high < 32768 = bounded 32768 high (lit< tt) (lit< tt) (h .signed) in
     let k : natAbs high ≤ 2 ^ 24 = omega (arith, natAbs-le high m) in
     let l : low ≤ 2 ^ 24 = omega (arith, h .unsigned) in
     reading-once binary32 16 low (lit≤ tt) l high k
 
--- the number of q, rounded
-small-is : (high : ℤ) (low : ℕ) → mag high < 256 → low < 65536 → Is (rounded binary32 (q15-16-exact high low)) (q15-16-exact high low)
+-- what the number of q rounds to: that number itself, ..
+small-is : (high : ℤ) (low : ℕ) → mag high < 256 → low < 65536 → Equals (rounded binary32 (q15-16-exact high low)) (q15-16-exact high low)
 unfolding q15-16-exact
 small-is high low h l = two-parts-is binary32 16 high low 8 h l (lit≤ tt)
 
-rounded-within : (high : ℤ) (low : ℕ) → mag high < 32768 → low < 65536 → Within (rounded binary32 (q15-16-exact high low)) (q15-16-exact high low) 1 1024
+-- .. or one that is half a unit off
+rounded-near : (high : ℤ) (low : ℕ) → mag high < 32768 → low < 65536 → Within (rounded binary32 (q15-16-exact high low)) (q15-16-exact high low) (2 ^ 15) (2 ^ 25)
 unfolding q15-16-exact
-rounded-within high low h l =
-    looser (rounded binary32 (exactly 65536 high low)) (exactly 65536 high low) (2 ^ 15) (2 ^ 25) 1 1024 (lit< tt) (lit≤ tt)
-    (two-parts-within binary32 65536 high low 15 (lit< tt) h (omega arith) (lit≤ tt))
+rounded-near high low h l = two-parts-within binary32 divisor15-16 high low 15 (lit< tt) h (omega arith) (lit≤ tt)
 
-pub exact-near-zero : ExactNearZero
-exact-near-zero high low h l =
-    let m : mag high < 256 = bounded 255 high h in
+pub exact-sum : ExactSum
+exact-sum high low h l =
+    let m : mag high < 256 = bounded 256 high (lit< tt) (lit< tt) h in
     let parts : Parts15-16 high low = record { signed = ranged 32767 high (omega arith); unsigned = l } in
     rw (rounded-once high low parts) (small-is high low m l)
 
 pub within-1024th : Within1024th
-within-1024th high low h = rw (rounded-once high low h) (rounded-within high low (bounded 32767 high (h .signed)) (h .unsigned))
+within-1024th high low h =
+    let m : mag high < 32768 = bounded 32768 high (lit< tt) (lit< tt) (h .signed) in
+    rw (rounded-once high low h) (looser (rounded binary32 (q15-16-exact high low)) (q15-16-exact high low) (2 ^ 15) (2 ^ 25) _ _ (lit< tt) (lit≤ tt) (rounded-near high low m (h .unsigned)))
 
 -- by computing: the two whole numbers that would have to be equal
 pub no-wider : NoWider
@@ -60,9 +61,9 @@ whole : fin false 1 (pos 14) ≡ ofInt binary32 (pos 16384)
 unfolding ofInt
 whole = refl
 
-no-less : (p q : ℕ) → Within (fin false 1 (pos 14)) (q15-16-exact (pos 16384) 64) p q → q ≤ p * 1024
+distance : (p q : ℕ) → Within (fin false 1 (pos 14)) (q15-16-exact (pos 16384) 64) p q → 64 * q ≤ p * 65536
 unfolding q15-16-exact
-no-less p q h = omega arith
+distance p q h = h
 
 pub attained : Attained
-attained = (computed ∙ whole, λ p q h. no-less p q (rw computed at h))
+attained = (computed ∙ whole, λ p q h. omega (arith, distance p q (rw computed at h)))

@@ -1,15 +1,15 @@
 -- A float quotient of two whole numbers is the exact one, rounded once; where the first is no larger than the second it is 1 at most.
 -- Once for both formats. Assumes nothing.
-use Prim.Native.Nat.{ℕ, zero, suc, _+_, _*_, _^_, _≤_, _<_}
-use mathlib.Core.Path.{_≡_, refl, sym, ap, _∙_}
-use mathlib.Core.Bool.{Bool, true, false, _&&_, _||_, true≢false}
-use native.Mathlib.Nat.{ne-of-gt, mul-pos, zero-lt-suc, le-of-lt, le-of-eq, le-of-mul-le-mul-right, lt-irrefl, zero-mul}
+use Prim.Native.Nat.{ℕ, zero, suc, _*_, _^_, _≤_, _<_}
+use mathlib.Core.Path.{_≡_, ap, _∙_}
+use mathlib.Core.Bool.{Bool, true, false, _&&_, _||_}
+use native.Mathlib.Nat.{ne-of-gt, mul-pos, zero-lt-suc, le-of-lt, le-of-eq, le-of-mul-le-mul-right}
 use native.Mathlib.Omega.{arith}
 use borrow.Author.Tests.{ne-eqb}
 use lib.Dec.{T, ltb, eqb, ltb→lt, eqb→eq, lit<}
 use lib.IntN.{ℤ, pos}
 use lib.Pow.{pow-pos}
-use lib.Ieee.{Float, nan, inf, fin, Format, prec, emax, up, down, round, div, le, lt, eq}
+use lib.Ieee.{Float, nan, inf, fin, Format, prec, up, down, round, div, le, lt, eq}
 use lib.Ieee.Back.{round-whole}
 use lib.Ieee.Exact.{HasValue}
 use lib.Ieee.Fits.{up-pos, down-pos}

@@ -1,21 +1,21 @@
 -- One rounding is off by half a unit in the last place at most: by 2 ^ j / 2 ^ (prec + 1) for a size up to 2 ^ j, in a format of prec digits.
 -- Once for both formats. Assumes nothing.
-use Prim.Native.Nat.{ℕ, suc, _+_, _-_, _*_, _/_, _%_, _^_, _≤_, _<_, compare, Ordering, Ordering·lt, Ordering·eq, Ordering·gt}
-use mathlib.Core.Path.{_≡_, refl, sym, ap, _∙_, subst}
+use Prim.Native.Nat.{ℕ, suc, _+_, _*_, _/_, _%_, _^_, _≤_, _<_, compare, Ordering, Ordering·lt, Ordering·eq, Ordering·gt}
+use mathlib.Core.Path.{_≡_, ap, subst}
 use mathlib.Core.Bool.{Bool, not}
 use mathlib.Core.Logic.{_⊎_, inl, inr}
-use native.Mathlib.Nat.{le-trans, le-of-eq, lt-of-lt-of-le, lt-of-le-of-lt, le-of-lt, eq-or-lt-of-le, mul-comm, mul-right-comm, one-mul, zero-add, mul-pos, mul-le-mul-left, mul-le-mul-right, mul-lt-mul-of-pos-right, lt-of-mul-lt-mul-right, div-add-mod', mod-lt, div-lt-iff-lt-mul, suc-mul}
+use native.Mathlib.Nat.{le-trans, le-of-eq, lt-of-lt-of-le, eq-or-lt-of-le, mul-right-comm, one-mul, zero-add, mul-pos, mul-le-mul-left, mul-le-mul-right, mul-lt-mul-of-pos-right, lt-of-mul-lt-mul-right, div-add-mod', mod-lt, div-lt-iff-lt-mul, suc-mul}
 use native.Mathlib.Omega.{arith}
-use lib.Dec.{T, isLe, isEq, leb→le, nleb→lt, eqb→eq, lit<, lit≤}
-use lib.Pow.{pow-add, pow-pos, pow-mono, pow-lt}
-use lib.Ieee.{Float, nan, inf, fin, Format, binary32, binary64, prec, emax, low, up, down, size, nearest, round}
+use lib.Dec.{T, isLe, isEq, leb→le, nleb→lt, eqb→eq}
+use lib.Pow.{pow-add, pow-pos, pow-mono}
+use lib.Ieee.{Float, nan, inf, fin, Format, prec, emax, low, up, down, size, nearest, round}
 use lib.Ieee.Digits.{size-le}
-use lib.Ieee.Exact.{HasValue, units-val, round-exact}
+use lib.Ieee.Exact.{HasValue, units-val}
 use lib.Ieee.Fits.{round-is}
 use lib.Ieee.Nearest.{closest}
 use lib.Ieee.Order.{drop, kept}
 use lib.Ieee.Scale.{grid, overflow}
-use Rattle.fixed.proofs.Held.{held}
+use Rattle.fixed.proofs.Held.{held, finest}
 use Rattle.fixed.proofs.Near.{Close, Sized, triangle}
 
 -- ---- the whole number nearest to a fraction is off by a half at most
@@ -39,45 +39,52 @@ closest-half a b B =
     subst (λ (x : ℕ). Half (closest a b) x b) (div-add-mod' a b)
     (by-order (a / b) (a % b) b (compare r b) (mod-lt a B) (leb→le r b) (nleb→lt r b) (eqb→eq r b))
 
--- ---- so is a fraction below 2 ^ j in units of the digits that a format keeps of it
+-- ---- so is a fraction below 2 ^ j, in units of the last digit that a format keeps
+
+-- n / c in smallest values of the format; the digits kept of it, and the weight of the last one
+abbrev smallest : Format → ℕ → ℕ
+smallest f n = n * 2 ^ low f
+
+abbrev leading : Format → ℕ → ℕ → ℕ
+leading f n c = kept (prec f) (smallest f n) c
+
+abbrev unit : Format → ℕ → ℕ → ℕ
+unit f n c = 2 ^ drop (prec f) (smallest f n) c
 
 -- no more digits are dropped than j leaves room for
-dropped : (f : Format) (n c j : ℕ) → 0 < c → n < 2 ^ j * c → 2 ^ drop (prec f) (n * 2 ^ low f) c * 2 ^ prec f ≤ 2 ^ j * 2 ^ low f
-dropped f n c j C h =
-    let a = n * 2 ^ low f in
+unit-small : (f : Format) (n c j : ℕ) → 0 < c → n < 2 ^ j * c → unit f n c * 2 ^ prec f ≤ 2 ^ j * 2 ^ low f
+unit-small f n c j C h =
+    let a = smallest f n in
     let e : a < 2 ^ (j + low f) * c = rw (pow-add 2 j (low f)) (lt-of-lt-of-le (mul-lt-mul-of-pos-right h (pow-pos (low f))) (le-of-eq (mul-right-comm (2 ^ j) c (2 ^ low f)))) in
     let z : size (a / c) ≤ j + low f = size-le (a / c) (j + low f) (div-lt-iff-lt-mul C .1 e) in
-    let k : drop (prec f) a c + prec f ≤ j + low f = fewer f (size (a / c)) z in
+    let k : drop (prec f) a c + prec f ≤ j + low f = omega (arith, finest f) in
     rw (← pow-add 2 (drop (prec f) a c) (prec f), ← pow-add 2 j (low f)) (pow-mono k)
-  where
-    fewer : (f : Format) (z : ℕ) → z ≤ j + low f → z - prec f + prec f ≤ j + low f
-    fewer binary32 z h = omega arith
-    fewer binary64 z h = omega arith
 
--- w units of k, nearest to n l / c
+-- w units of k, nearest to n l / c: how far off, ..
 scaled : (w k c n l p j : ℕ) → Half w (n * l) (c * k) → k * p ≤ j * l → Close (w * k) 0 l n 0 c j (p * 2)
 scaled w k c n l p j h b = omega (arith, mul-le-mul-right p (h .above), mul-le-mul-right p (h .below), mul-le-mul-right c b)
 
+-- .. and how many
 few : (w k c n l p j : ℕ) → 0 < l → 0 < p → Half w (n * l) (c * k) → k * p ≤ j * l → n < j * c → w * k < j * l * 2
 few w k c n l p j L P h b m =
     let g : w * k * c < j * l * 2 * c = omega (arith, mul-le-mul-right l m, mul-le-mul-right c (le-trans (mul-le-mul-left k P) b), h .above) in
     lt-of-mul-lt-mul-right c g
 
 module _ (f : Format) (n c j : ℕ) (C : 0 < c) (h : n < 2 ^ j * c) where
-  half : Half (kept (prec f) (n * 2 ^ low f) c) (n * 2 ^ low f) (c * 2 ^ drop (prec f) (n * 2 ^ low f) c)
-  half = closest-half (n * 2 ^ low f) (c * 2 ^ drop (prec f) (n * 2 ^ low f) c) (mul-pos C (pow-pos (drop (prec f) (n * 2 ^ low f) c)))
+  half : Half (leading f n c) (smallest f n) (c * unit f n c)
+  half = closest-half (smallest f n) (c * unit f n c) (mul-pos C (pow-pos (drop (prec f) (smallest f n) c)))
 
   grid-close : Close (grid f n c) 0 (2 ^ low f) n 0 c (2 ^ j) (2 ^ prec f * 2)
-  grid-close = scaled (kept (prec f) (n * 2 ^ low f) c) (2 ^ drop (prec f) (n * 2 ^ low f) c) c n (2 ^ low f) (2 ^ prec f) (2 ^ j) half (dropped f n c j C h)
+  grid-close = scaled (leading f n c) (unit f n c) c n (2 ^ low f) (2 ^ prec f) (2 ^ j) half (unit-small f n c j C h)
 
   grid-finite : j ≤ emax f → grid f n c < overflow f
   grid-finite J =
       let i : j + low f + 1 ≤ low f + suc (emax f) = omega arith in
-      lt-of-lt-of-le (few (kept (prec f) (n * 2 ^ low f) c) (2 ^ drop (prec f) (n * 2 ^ low f) c) c n (2 ^ low f) (2 ^ prec f) (2 ^ j) (pow-pos (low f)) (pow-pos (prec f)) half (dropped f n c j C h) h)
-      (rw (← pow-add 2 j (low f), ← pow-add 2 (j + low f) 1) (pow-mono i))
+      let g = few (leading f n c) (unit f n c) c n (2 ^ low f) (2 ^ prec f) (2 ^ j) (pow-pos (low f)) (pow-pos (prec f)) half (unit-small f n c j C h) h in
+      lt-of-lt-of-le g (rw (← pow-add 2 j (low f), ← pow-add 2 (j + low f) 1) (pow-mono i))
 
   grid-value : (s : Bool) → j ≤ emax f → HasValue (round f s n c) s (grid f n c) (2 ^ low f)
-  grid-value s J = rw (round-is f s n c) (units-val f s (kept (prec f) (n * 2 ^ low f) c) (drop (prec f) (n * 2 ^ low f) c) (grid-finite J))
+  grid-value s J = rw (round-is f s n c) (units-val f s (leading f n c) (drop (prec f) (smallest f n) c) (grid-finite J))
 
 -- ---- a float that has a value near a fraction is near that fraction
 
@@ -94,6 +101,7 @@ sized (fin t m e) s g u n c p q U h k = (h .0, rw zero-add at (triangle (m * up 
 pub half-unit : (f : Format) (s : Bool) (n c j : ℕ) → 0 < c → n ≤ 2 ^ j * c → j + prec f ≤ emax f → Sized (round f s n c) s n c (2 ^ j) (2 ^ prec f * 2)
 half-unit f s n c j C h J = go (eq-or-lt-of-le h)
   where
+    -- 2 ^ j itself is a value of the format
     one-power : n ≡ 2 ^ j * c → n * 2 ^ low f ≡ 1 * 2 ^ (j + low f) * c
     one-power e = rw (e, one-mul, pow-add 2 j (low f)) (mul-right-comm (2 ^ j) c (2 ^ low f))
 

@@ -1,7 +1,7 @@
 -- A float sum whose second summand is not negative is the exact sum, rounded once. Once for both formats. Assumes nothing.
 use Prim.Native.Nat.{ℕ, suc, _+_, _-_, _*_, _^_, _≤_, _<_}
 use mathlib.Core.Path.{_≡_, refl, sym, ap, _∙_}
-use mathlib.Core.Bool.{Bool, true, false, not, cond}
+use mathlib.Core.Bool.{Bool, true, false, cond}
 use native.Mathlib.Decide.{decLt}
 use native.Mathlib.Nat.{zero-add, mul-pos}
 use native.Mathlib.Omega.{arith}
@@ -12,10 +12,10 @@ use lib.Ieee.{Float, nan, inf, fin, Format, prec, up, down, round, sum, add, ofI
 use lib.Ieee.Exact.{HasValue}
 use lib.Ieee.Fits.{down-pos}
 use Rattle.fixed.specs.Distance.{rounded}
-use Rattle.fixed.specs.Fixed.{exactly}
+use Rattle.fixed.specs.Fixed.{exactForm}
 use Rattle.fixed.proofs.Difference.{plus, minus}
 use Rattle.fixed.proofs.Held.{whole}
-use Rattle.fixed.proofs.Once.{once, once-up, once-down, same, exactly-once}
+use Rattle.fixed.proofs.Once.{once, once-up, once-down, same, exact-form-once}
 
 -- ---- the sum of two fractions over c, the second one not negative
 
@@ -24,17 +24,17 @@ unfolding sum
 both-up f a b c = refl
 
 -- -a and b: the larger one gives the sign
-apart : (f : Format) (a b c : ℕ) → sum f true a false b c ≡ cond (ltb a b) (round f false (b - a) c) (round f (ltb b a) (a - b) c)
+opposed : (f : Format) (a b c : ℕ) → sum f true a false b c ≡ cond (ltb a b) (round f false (b - a) c) (round f (ltb b a) (a - b) c)
 unfolding sum
-apart f a b c = refl
+opposed f a b c = refl
 
-apart-down : (f : Format) (a b c : ℕ) → b < a → sum f true a false b c ≡ round f true (a - b) c
-apart-down f a b c h =
+opposed-down : (f : Format) (a b c : ℕ) → b < a → sum f true a false b c ≡ round f true (a - b) c
+opposed-down f a b c h =
     let l : b ≤ a = omega arith in
-    apart f a b c ∙ rw (le-ltb a b l, lt-ltb b a h)
+    opposed f a b c ∙ rw (le-ltb a b l, lt-ltb b a h)
 
-apart-up : (f : Format) (a b c : ℕ) → a ≤ b → sum f true a false b c ≡ round f false (b - a) c
-apart-up f a b c h = apart f a b c ∙ go (decLt a b)
+opposed-up : (f : Format) (a b c : ℕ) → a ≤ b → sum f true a false b c ≡ round f false (b - a) c
+opposed-up f a b c h = opposed f a b c ∙ go (decLt a b)
   where
     go : Dec (a < b) → cond (ltb a b) (round f false (b - a) c) (round f (ltb b a) (a - b) c) ≡ round f false (b - a) c
     go (yes k) = rw (lt-ltb a b k)
@@ -50,8 +50,8 @@ sum-once f false a b c =
 sum-once f true a b c = rw (zero-add b) (go (decLt b a))
   where
     go : Dec (b < a) → sum f true a false b c ≡ once f b a c
-    go (yes h) = apart-down f a b c h ∙ sym (once-down f b a c h)
-    go (no h) = let l : a ≤ b = omega arith in apart-up f a b c l ∙ sym (once-up f b a c l)
+    go (yes h) = opposed-down f a b c h ∙ sym (once-down f b a c h)
+    go (no h) = let l : a ≤ b = omega arith in opposed-up f a b c l ∙ sym (once-up f b a c l)
 
 -- ---- THE SUM of a whole number and a float that is g / u
 
@@ -79,6 +79,6 @@ add-once f (fin r m e) (fin t n d) s h g u U v w =
     equal false = omega (arith, first, second)
     equal true = omega (arith, first, second)
 
-pub one-rounding : (f : Format) (high : ℤ) (y : Float) (g u : ℕ) → natAbs high ≤ 2 ^ prec f → 0 < u → HasValue y false g u → add f (ofInt f high) y ≡ rounded f (exactly u high g)
-one-rounding f (pos n) y g u h U v = add-once f (ofInt f (pos n)) y false n g u U (whole f (pos n) h) v ∙ sym (exactly-once f u g (pos n))
-one-rounding f (negsuc n) y g u h U v = add-once f (ofInt f (negsuc n)) y true (suc n) g u U (whole f (negsuc n) h) v ∙ sym (exactly-once f u g (negsuc n))
+pub one-rounding : (f : Format) (high : ℤ) (y : Float) (g u : ℕ) → natAbs high ≤ 2 ^ prec f → 0 < u → HasValue y false g u → add f (ofInt f high) y ≡ rounded f (exactForm u high g)
+one-rounding f (pos n) y g u h U v = add-once f (ofInt f (pos n)) y false n g u U (whole f (pos n) h) v ∙ sym (exact-form-once f u g (pos n))
+one-rounding f (negsuc n) y g u h U v = add-once f (ofInt f (negsuc n)) y true (suc n) g u U (whole f (negsuc n) h) v ∙ sym (exact-form-once f u g (negsuc n))

@@ -5,39 +5,42 @@ use lib.IntN.{ℤ, pos, _+ℤ_, _*ℤ_}
 use lib.Ieee.{Float, Format, binary32, binary64, add, div, ofInt}
 use Rattle.fixed.specs.declared.Exact.{Exact}
 
--- high + low / divisor as one fraction: a whole part, and a fraction that counts up to the divisor
-abbrev pub exactly : ℕ → ℤ → ℕ → Exact
-exactly divisor high low = record { numerator = high *ℤ pos divisor +ℤ pos low; denominator = divisor }
+-- ---- a whole part and a fraction: high + low / divisor
 
--- the low part over the divisor, in a format of floats
+-- as two whole numbers: "high × divisor + low, and the divisor" (document 01, Values)
+abbrev pub exactForm : ℕ → ℤ → ℕ → Exact
+exactForm divisor high low = record { numerator = high *ℤ pos divisor +ℤ pos low; denominator = divisor }
+
+-- low / divisor in a format of floats
 abbrev pub quotient : Format → ℕ → ℕ → Float
 quotient f divisor low = div f (ofInt f (pos low)) (ofInt f (pos divisor))
 
--- high + low / divisor, each operation in a format of floats
+-- high + low / divisor, each operation in that format
 abbrev pub reading : Format → ℕ → ℤ → ℕ → Float
 reading f divisor high low = add f (ofInt f high) (quotient f divisor low)
 
--- ---- q, Q15.16: "a 16-bit whole part and a 16-bit fraction" (GPMF description, Types)
+-- ---- q, Q15.16
 
 abbrev pub divisor15-16 : ℕ
 divisor15-16 = 65536
 
+-- the number itself: "a 16-bit whole part and a 16-bit fraction" (GPMF description, Types)
 unfoldable pub q15-16-exact : ℤ → ℕ → Exact
-q15-16-exact high low = exactly divisor15-16 high low
+q15-16-exact high low = exactForm divisor15-16 high low
 
 -- "signed 16-bit part plus unsigned 16-bit part / 65536, in f32" (document 01, Values)
 unfoldable pub q15-16 : ℤ → ℕ → Float
 q15-16 high low = reading binary32 divisor15-16 high low
 
--- ---- Q, Q31.32: "a 32-bit whole part and a 32-bit fraction" (GPMF description, Types)
+-- ---- Q, Q31.32
 
--- the Rust's divisor (document 01, Values)
+-- one less than what "a 32-bit fraction" counts to (GPMF description, Types): the Rust's divisor (document 01, Values)
 abbrev pub divisor31-32 : ℕ
 divisor31-32 = 4294967295
 
 -- "the exact form, two whole numbers: high × 4294967295 + low, and 4294967295" (document 01, Values)
 unfoldable pub q31-32-exact : ℤ → ℕ → Exact
-q31-32-exact high low = exactly divisor31-32 high low
+q31-32-exact high low = exactForm divisor31-32 high low
 
 -- "signed 32-bit part plus unsigned 32-bit part / 4294967295, each operation in f64" (document 01, Values)
 unfoldable pub q31-32 : ℤ → ℕ → Float

@@ -1,24 +1,24 @@
-// Fixed-point numbers, a whole part and a fraction: q as f32, Q as f64 and as a fraction of two whole numbers.
+// Fixed-point numbers of a high and a low part: q in f32; Q in f64 and, with nothing rounded, as two whole numbers.
 ghost use mathlib.Core.Path.{_≡_};
 ghost use Rattle.fixed.specs.Fixed.{q15-16, q31-32, q31-32-exact};
 
-// What one of Q's whole part has in its fraction: the Rust's number, one less than the description's.
+// What Q's low part is divided by: the Rust's number, one less than the description's.
 const DIVISOR: i64 = 4294967295;
 
-// A fraction of two whole numbers.
+// A fraction.
 pub struct Exact {
     pub numerator: i64,
     pub denominator: u64,
 }
 
-// q, Q15.16: one exact division and one rounded sum.
+// q: one exact division and one rounded sum.
 pub fn q15_16(high: i16, low: u16) -> f32
     ensures { λ r. ⌜ r ≡ q15-16 high low ⌝ }
 {
     high as f32 + low as f32 / 65536.0
 }
 
-// Q, Q31.32: each operation rounded.
+// Q: both operations rounded.
 pub fn q31_32(high: i32, low: u32) -> f64
     ensures { λ r. ⌜ r ≡ q31-32 high low ⌝ }
 {

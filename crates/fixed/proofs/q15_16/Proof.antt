@@ -1,7 +1,6 @@
 -- `fixed::q15_16` meets its contract: its two operations are the definition's. Assumes nothing.
 use borrow.Author.Needs.{needs}
-use mathlib.Core.Path.{refl}
-use lib.Ieee.{add, div, ofInt, ofBits}
+use lib.Ieee.{ofInt, ofBits}
 use Rattle.fixed.specs.Fixed.{q15-16}
 use Rattle.fixed.proofs.q15_16.Statement.{statement}
 use Rattle.fixed.proofs.q15_16.Tie as tie
