@@ -24,6 +24,12 @@ use Rattle.klv.proofs.Cursor.new.Kinds as new-kinds
 use Rattle.klv.proofs.Cursor.new.Reads as new-reads
 use Rattle.klv.proofs.Cursor.parse_header.Kinds as parse-header-kinds
 use Rattle.klv.proofs.Cursor.parse_header.Reads as parse-header-reads
+use Rattle.fixed.proofs.q15_16.Kinds as q15-16-kinds
+use Rattle.fixed.proofs.q15_16.Reads as q15-16-reads
+use Rattle.fixed.proofs.q31_32.Kinds as q31-32-kinds
+use Rattle.fixed.proofs.q31_32.Reads as q31-32-reads
+use Rattle.fixed.proofs.q31_32_exact.Kinds as q31-32-exact-kinds
+use Rattle.fixed.proofs.q31_32_exact.Reads as q31-32-exact-reads
 
 -- a promise over n lifetimes, parameters and a result settles the result
 abbrev pub OneResult : (n : ℕ) (parameters : List (PK n)) (result : RK n) → Out n parameters result → Type 0
@@ -57,3 +63,12 @@ new κs a x y s t p q = λ i. record { at = (p ∙ sym q) i }
 
 pub parse-header : OneResult 1 parse-header-kinds.ps parse-header-kinds.r parse-header-reads.Learnt
 parse-header κs a x y s t p q = p ∙ sym q
+
+pub q15-16 : OneResult 0 q15-16-kinds.ps q15-16-kinds.r q15-16-reads.Learnt
+q15-16 κs a x y s t p q = p ∙ sym q
+
+pub q31-32 : OneResult 0 q31-32-kinds.ps q31-32-kinds.r q31-32-reads.Learnt
+q31-32 κs a x y s t p q = p ∙ sym q
+
+pub q31-32-exact : OneResult 0 q31-32-exact-kinds.ps q31-32-exact-kinds.r q31-32-exact-reads.Learnt
+q31-32-exact κs a x y s t p q = p ∙ sym q
