@@ -1,0 +1,4 @@
+pub mod Number
+pub mod Expansion
+pub mod Resolved
+pub mod Held
