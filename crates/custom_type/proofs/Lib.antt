@@ -5,3 +5,6 @@ pub mod Follow
 pub mod Gone
 pub mod Laid
 pub mod Answer
+pub mod Learnt
+pub mod Plain
+pub mod Cases
