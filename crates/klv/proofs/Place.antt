@@ -26,40 +26,57 @@ module _ (s : List ℕ) (at : ℕ) where
     pub fits : endAt at h ≤ length s
     pub level : itemsOf (drop at s) ≡ node h (payloadAt s at h) (itemsOf (drop (at + 8) (take (endAt at h) s))) (itemsOf (drop (nextAt at h) s))
 
-  pub at-short : headerAt s at ≡ Short → IsShort
-  at-short e = go (firstItem (drop at s)) refl e
+  -- what stands first from the place on, in each case
+  pub first-short : headerAt s at ≡ Short → firstItem (drop at s) ≡ few
+  first-short e = go (firstItem (drop at s)) refl e
     where
-      go : (x : First) → firstItem (drop at s) ≡ x → told x ≡ Short → IsShort
-      go few k e′ =
-          record {
-            few-left = omega (arith, of-few (drop at s) k, length-drop at s);
-            level = items-first (drop at s) few k ∙ ap left (length-drop at s);
-          }
+      go : (x : First) → firstItem (drop at s) ≡ x → told x ≡ Short → firstItem (drop at s) ≡ few
+      go few k e′ = k
       go past k e′ = let o : _≡_ {A = ℕ} 0 1 = cc in absurd (omega arith)
       go (item h p r) k e′ = let o : _≡_ {A = ℕ} 0 1 = cc in absurd (omega arith)
 
-  pub at-past : headerAt s at ≡ Past → itemsOf (drop at s) ≡ broken
-  at-past e = go (firstItem (drop at s)) refl e
+  pub first-past : headerAt s at ≡ Past → firstItem (drop at s) ≡ past
+  first-past e = go (firstItem (drop at s)) refl e
     where
-      go : (x : First) → firstItem (drop at s) ≡ x → told x ≡ Past → itemsOf (drop at s) ≡ broken
+      go : (x : First) → firstItem (drop at s) ≡ x → told x ≡ Past → firstItem (drop at s) ≡ past
       go few k e′ = let o : _≡_ {A = ℕ} 0 1 = cc in absurd (omega arith)
-      go past k e′ = items-first (drop at s) past k
+      go past k e′ = k
       go (item h p r) k e′ = let o : _≡_ {A = ℕ} 0 1 = cc in absurd (omega arith)
 
-  pub at-item : (h : KLV) → headerAt s at ≡ Item h → IsItem h
-  at-item h e = go (firstItem (drop at s)) refl e
+  pub first-item : (h : KLV) → headerAt s at ≡ Item h → firstItem (drop at s) ≡ item h (payloadAt s at h) (drop (nextAt at h) s)
+  first-item h e = go (firstItem (drop at s)) refl e
     where
-      go : (x : First) → firstItem (drop at s) ≡ x → told x ≡ Item h → IsItem h
+      go : (x : First) → firstItem (drop at s) ≡ x → told x ≡ Item h → firstItem (drop at s) ≡ item h (payloadAt s at h) (drop (nextAt at h) s)
       go few k e′ = let o : _≡_ {A = ℕ} 0 1 = cc in absurd (omega arith)
       go past k e′ = let o : _≡_ {A = ℕ} 0 1 = cc in absurd (omega arith)
       go (item g p r) k e′ =
           let same : g ≡ h = cc in
           let w : Stands (drop at s) h p r = rw same at (of-item (drop at s) g p r k) in
           let payload : p ≡ payloadAt s at h = w .payload-is ∙ ap (take (dataLen h)) (drop-drop 8 at s) in
-          let inside : p ≡ drop (at + 8) (take (endAt at h) s) = payload ∙ sym (drop-take (at + 8) (dataLen h) s) in
           let up : at + (8 + aligned (dataLen h)) ≡ nextAt at h = omega arith in
           let rest : r ≡ drop (nextAt at h) s = w .rest-is ∙ drop-drop (8 + aligned (dataLen h)) at s ∙ ap (λ (n : ℕ). drop n s) up in
-          record {
-            fits = omega (arith, w .room, w .fits, length-drop at s);
-            level = items-first (drop at s) (item g p r) k ∙ (λ i. node (same i) (payload i) (itemsOf (inside i)) (itemsOf (rest i)));
-          }
+          k ∙ (λ i. item (same i) (payload i) (rest i))
+
+  -- and so the level from there on
+  pub at-short : headerAt s at ≡ Short → IsShort
+  at-short e =
+      let k = first-short e in
+      record {
+        few-left = omega (arith, of-few (drop at s) k, length-drop at s);
+        level = items-first (drop at s) few k ∙ ap left (length-drop at s);
+      }
+
+  pub at-past : headerAt s at ≡ Past → itemsOf (drop at s) ≡ broken
+  at-past e = items-first (drop at s) past (first-past e)
+
+  pub at-item : (h : KLV) → headerAt s at ≡ Item h → IsItem h
+  at-item h e =
+      let k = first-item h e in
+      let w = of-item (drop at s) h (payloadAt s at h) (drop (nextAt at h) s) k in
+      let inside : payloadAt s at h ≡ drop (at + 8) (take (endAt at h) s) = sym (drop-take (at + 8) (dataLen h) s) in
+      record {
+        fits = omega (arith, w .room, w .fits, length-drop at s);
+        level =
+            items-first (drop at s) (item h (payloadAt s at h) (drop (nextAt at h) s)) k
+            ∙ ap (λ (l : List ℕ). node h (payloadAt s at h) (itemsOf l) (itemsOf (drop (nextAt at h) s))) inside;
+      }
