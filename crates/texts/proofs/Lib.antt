@@ -1,0 +1,4 @@
+pub mod Ascii
+pub mod Kept
+pub mod Table
+pub mod Texts

@@ -1,0 +1,4 @@
+pub mod Kept
+pub mod Utf8
+pub mod Expected
+pub mod Texts
