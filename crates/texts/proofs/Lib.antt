@@ -1,4 +1,6 @@
 pub mod Ascii
+pub mod Decoded
+pub mod Encoded
 pub mod Kept
 pub mod Table
 pub mod Texts

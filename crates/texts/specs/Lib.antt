@@ -1,4 +1,5 @@
 pub mod Kept
 pub mod Utf8
+pub mod Scalar
 pub mod Expected
 pub mod Texts
