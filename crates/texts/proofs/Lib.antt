@@ -2,5 +2,6 @@ pub mod Ascii
 pub mod Decoded
 pub mod Encoded
 pub mod Kept
+pub mod Samples
 pub mod Table
 pub mod Texts
