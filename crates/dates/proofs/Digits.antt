@@ -1,0 +1,42 @@
+-- The digits of a field, byte by byte, and how large their number is: one law for fields of any width. Assumes nothing.
+use Prim.Native.Nat.{ℕ, _+_, _-_, _*_, _^_, _<_, _≤_}
+use mathlib.Core.Path.{_≡_, refl, ap, _∙_}
+use mathlib.Core.List.{List}
+use native.Mathlib.Nat.{pow-suc, pow-le-pow-right}
+use native.Mathlib.Numerals.{add-one}
+use native.Mathlib.Omega.{arith}
+use lib.Arith.{digits-lt}
+use lib.Dec.{lit<}
+use lib.ListN.{length, getD}
+use lib.Seq.{slice-cons, slice-empty}
+use Rattle.dates.specs.declared.fields.Number.the-variants as number
+use Rattle.dates.specs.Fields.{digit, digitsAfter, digits, field}
+
+module _ (text : List ℕ) (i to : ℕ) (some : i < to) (inside : to ≤ length text) where
+  -- a field with a byte
+  pub from-none : digits (field text i to) ≡ digitsAfter 0 (field text i to)
+  from-none = rw (slice-cons i to text 0 some inside)
+
+  -- its first byte is a digit
+  pub one-more : (n d : ℕ) → digit (getD text i 0) ≡ number.Is d → digitsAfter n (field text i to) ≡ digitsAfter (n * 10 + d) (field text (i + 1) to)
+  unfolding digitsAfter
+  one-more n d h = rw (slice-cons i to text 0 some inside, add-one, h)
+
+  -- its first byte is none
+  pub no-digit : (n : ℕ) → digit (getD text i 0) ≡ number.Unreadable → digitsAfter n (field text i to) ≡ number.Unreadable
+  unfolding digitsAfter
+  no-digit n h = rw (slice-cons i to text 0 some inside, h)
+
+pub no-more : (text : List ℕ) (to n : ℕ) → digitsAfter n (field text to to) ≡ number.Is n
+unfolding digitsAfter
+no-more text to n = rw (slice-empty to text)
+
+-- with a digit more, k digits are k + 1, and 18 are held by 64 bits
+pub ten-times : (k n d : ℕ) → n < 10 ^ k → d < 10 → n * 10 + d < 10 ^ (k + 1)
+ten-times k n d h l = rw (add-one, pow-suc) (digits-lt h l)
+
+pub ten-times-fits : (k n d : ℕ) → k < 18 → n < 10 ^ k → d < 10 → n * 10 + d < 2 ^ 64
+ten-times-fits k n d few h l =
+    let up : k + 1 ≤ 18 = omega arith in
+    let most : 10 ^ (k + 1) ≤ 10 ^ 18 = pow-le-pow-right {n = 10} (lit< tt) up in
+    omega (arith, ten-times k n d h l)

@@ -1,0 +1,4 @@
+pub mod Calendar
+pub mod Fields
+pub mod Date
+pub mod Bounds

@@ -1,0 +1,124 @@
+// The numbers that stand in a date's text.
+ghost use mathlib.Core.Path.{_≡_};
+ghost use Prim.Native.Nat.{_+_, _-_, _^_, _<_, _≤_};
+ghost use lib.ListN.{length};
+ghost use Rattle.dates.specs.Fields.{digit, digits, unsigned, year, field, fieldsOf};
+ghost use Rattle.dates.specs.Bounds.{Field, Below, AYear, ReadInRange};
+
+// What the bytes of one field stand for.
+pub enum Number {
+    Is(u64),
+    Unreadable,
+}
+
+pub struct Fields {
+    pub year: u64,
+    pub month: u64,
+    pub day: u64,
+    pub hour: u64,
+    pub minute: u64,
+    pub second: u64,
+    pub millisecond: u64,
+}
+
+pub enum Reading {
+    Read(Fields),
+    Unreadable,
+}
+
+fn digit(b: u8) -> Number
+    ensures { λ r. ⌜ (r ≡ digit b) × Below 10 r ⌝ }
+{
+    if b < b'0' {
+        return Number::Unreadable;
+    }
+    if b'9' < b {
+        return Number::Unreadable;
+    }
+    Number::Is((b - b'0') as u64)
+}
+
+// The digits of a field, and nothing else.
+fn digits(text: &[u8], from: usize, to: usize) -> Number
+    requires { ⌜ Field (now text) from to ⌝ }
+    ensures { λ r. ⌜ (r ≡ digits (field (now (text .entry)) from to)) × Below (10 ^ (to - from)) r ⌝ }
+{
+    let mut number: u64 = 0;
+    let mut i = from;
+    while i < to {
+        let Number::Is(d) = digit(text[i]) else {
+            return Number::Unreadable;
+        };
+        number = number * 10 + d;
+        i += 1;
+    }
+    Number::Is(number)
+}
+
+// A leading `+` is read in each field.
+fn unsigned(text: &[u8], from: usize, to: usize) -> Number
+    requires { ⌜ Field (now text) from to × (from + 1 < to) ⌝ }
+    ensures { λ r. ⌜ (r ≡ unsigned (field (now (text .entry)) from to)) × Below (10 ^ (to - from)) r ⌝ }
+{
+    if text[from] == b'+' {
+        return digits(text, from + 1, to);
+    }
+    digits(text, from, to)
+}
+
+// A leading `-` is read in the year only.
+fn year(text: &[u8]) -> Number
+    requires { ⌜ 2 ≤ length (now text) ⌝ }
+    ensures { λ r. ⌜ (r ≡ year (field (now (text .entry)) 0 2)) × AYear r ⌝ }
+{
+    if text[0] == b'-' {
+        match digits(text, 1, 2) {
+            Number::Is(n) => Number::Is(2000 - n),
+            Number::Unreadable => Number::Unreadable,
+        }
+    } else {
+        match unsigned(text, 0, 2) {
+            Number::Is(n) => Number::Is(2000 + n),
+            Number::Unreadable => Number::Unreadable,
+        }
+    }
+}
+
+pub fn parse_fields(text: &[u8]) -> Reading
+    requires { ⌜ 16 ≤ length (now text) ⌝ }
+    ensures { λ r. ⌜ (r ≡ fieldsOf (now (text .entry))) × ReadInRange r ⌝ }
+{
+    if 128 <= text[12] {
+        return Reading::Unreadable;
+    }
+    let Number::Is(year) = year(text) else {
+        return Reading::Unreadable;
+    };
+    let Number::Is(month) = unsigned(text, 2, 4) else {
+        return Reading::Unreadable;
+    };
+    let Number::Is(day) = unsigned(text, 4, 6) else {
+        return Reading::Unreadable;
+    };
+    let Number::Is(hour) = unsigned(text, 6, 8) else {
+        return Reading::Unreadable;
+    };
+    let Number::Is(minute) = unsigned(text, 8, 10) else {
+        return Reading::Unreadable;
+    };
+    let Number::Is(second) = unsigned(text, 10, 12) else {
+        return Reading::Unreadable;
+    };
+    let Number::Is(millisecond) = unsigned(text, 13, 16) else {
+        return Reading::Unreadable;
+    };
+    Reading::Read(Fields {
+        year,
+        month,
+        day,
+        hour,
+        minute,
+        second,
+        millisecond,
+    })
+}
