@@ -1,5 +1,6 @@
 pub mod Cases
 pub mod Digits
+pub mod First
 pub mod Months
 pub mod Possible
 pub mod Readings

@@ -5,9 +5,12 @@ use mathlib.Core.List.{List}
 use lib.ListN.{length}
 use Rattle.dates.specs.declared.fields.Number.{Number}
 use Rattle.dates.specs.declared.fields.Number.the-variants as number
-use Rattle.dates.specs.declared.fields.Fields.{Fields}
-use Rattle.dates.specs.declared.fields.Reading.{Reading}
-use Rattle.dates.specs.declared.fields.Reading.the-variants as reading
+use Rattle.dates.specs.declared.fields.Day.{Day}
+use Rattle.dates.specs.declared.fields.Time.{Time}
+use Rattle.dates.specs.declared.fields.ReadDay.{ReadDay}
+use Rattle.dates.specs.declared.fields.ReadDay.the-variants as day
+use Rattle.dates.specs.declared.fields.ReadTime.{ReadTime}
+use Rattle.dates.specs.declared.fields.ReadTime.the-variants as time
 
 -- a field of the text with a byte or more, and few enough that 64 bits hold their number
 pub record Field (text : List ℕ) (from to : ℕ) : Type 0 where
@@ -25,26 +28,29 @@ abbrev pub AYear : Number → Type 0
 AYear (number.Is n) = (1991 ≤ n) × (n < 2100)
 AYear number.Unreadable = Unit
 
--- a date and a time that the calendar has, in such a year
-pub record DateInRange (year month day : ℕ) : Type 0 where
-  pub first-year : 1991 ≤ year
-  pub last-year : year < 2100
-  pub first-month : 1 ≤ month
-  pub last-month : month ≤ 12
-  pub first-day : 1 ≤ day
-  pub last-day : day ≤ 31
+pub record YearBounds (d : Day) : Type 0 where
+  pub first-year : 1991 ≤ d .year
+  pub last-year : d .year < 2100
 
-pub record TimeInRange (hour minute second : ℕ) : Type 0 where
-  pub hours : hour < 24
-  pub minutes : minute < 60
-  pub seconds : second < 60
+-- a day and a time that the calendar has, in such a year
+pub record DayBounds (d : Day) : Type 0 where
+  pub years : YearBounds d
+  pub first-month : 1 ≤ d .month
+  pub last-month : d .month ≤ 12
+  pub first-day : 1 ≤ d .day
+  pub last-day : d .day ≤ 31
 
--- fields as they can be read
-pub record InRange (f : Fields) : Type 0 where
-  pub first-year : 1991 ≤ f .year
-  pub last-year : f .year < 2100
-  pub milliseconds : f .millisecond < 1000
+pub record TimeBounds (t : Time) : Type 0 where
+  pub hours : t .hour < 24
+  pub minutes : t .minute < 60
+  pub seconds : t .second < 60
+  pub milliseconds : t .millisecond < 1000
 
-abbrev pub ReadInRange : Reading → Type 0
-ReadInRange (reading.Read f) = InRange f
-ReadInRange reading.Unreadable = Unit
+-- a day and a time as they can be read
+abbrev pub DayInRange : ReadDay → Type 0
+DayInRange (day.Is d) = YearBounds d
+DayInRange day.Unreadable = Unit
+
+abbrev pub TimeInRange : ReadTime → Type 0
+TimeInRange (time.Is t) = t .millisecond < 1000
+TimeInRange time.Unreadable = Unit

@@ -5,7 +5,8 @@ use mathlib.Core.Bool.{Bool, cond, not, _&&_, _||_}
 use mathlib.Core.List.{List, [], _∷_}
 use lib.Dec.{eqb, leb, ltb}
 use lib.ListN.{getD}
-use Rattle.dates.specs.declared.fields.Fields.{Fields}
+use Rattle.dates.specs.declared.fields.Day.{Day}
+use Rattle.dates.specs.declared.fields.Time.{Time}
 
 abbrev pub divides : ℕ → ℕ → Bool
 divides n year = eqb (year % n) 0
@@ -45,23 +46,20 @@ daysBeforeYear year = daysOfYears (year - 1970)
 abbrev pub daysBeforeMonth : ℕ → ℕ → ℕ
 daysBeforeMonth year month = daysOfMonths year (month - 1)
 
-abbrev pub daysBefore : ℕ → ℕ → ℕ → ℕ
-daysBefore year month day = daysBeforeYear year + daysBeforeMonth year month + (day - 1)
+abbrev pub daysBefore : Day → ℕ
+daysBefore d = daysBeforeYear (d .year) + daysBeforeMonth (d .year) (d .month) + (d .day - 1)
 
--- a date and a time that the calendar has; there is no second 60
-unfoldable pub possibleDate : ℕ → ℕ → ℕ → Bool
-possibleDate year month day = leb 1 month && (leb month 12 && (leb 1 day && leb day (daysOfMonth year month)))
+-- a day and a time that the calendar has; there is no second 60
+unfoldable pub possibleDay : Day → Bool
+possibleDay d = leb 1 (d .month) && (leb (d .month) 12 && (leb 1 (d .day) && leb (d .day) (daysOfMonth (d .year) (d .month))))
 
-unfoldable pub possibleTime : ℕ → ℕ → ℕ → Bool
-possibleTime hour minute second = ltb hour 24 && (ltb minute 60 && ltb second 60)
+unfoldable pub possibleTime : Time → Bool
+possibleTime t = ltb (t .hour) 24 && (ltb (t .minute) 60 && ltb (t .second) 60)
 
--- days and the time of a day as milliseconds
-abbrev pub inMilliseconds : ℕ → ℕ → ℕ → ℕ → ℕ → ℕ
-inMilliseconds days hour minute second millisecond = (((days * 24 + hour) * 60 + minute) * 60 + second) * 1000 + millisecond
+-- whole days and a time as milliseconds
+abbrev pub inMilliseconds : ℕ → Time → ℕ
+inMilliseconds days t = (((days * 24 + t .hour) * 60 + t .minute) * 60 + t .second) * 1000 + t .millisecond
 
 -- the milliseconds from the start of 1970 to a moment; an impossible date or time gives 0 (document 01, Values)
-unfoldable pub millisecondsOf : Fields → ℕ
-millisecondsOf f =
-    cond (possibleDate (f .year) (f .month) (f .day) && possibleTime (f .hour) (f .minute) (f .second))
-    (inMilliseconds (daysBefore (f .year) (f .month) (f .day)) (f .hour) (f .minute) (f .second) (f .millisecond))
-    0
+unfoldable pub millisecondsOf : Day → Time → ℕ
+millisecondsOf d t = cond (possibleDay d && possibleTime t) (inMilliseconds (daysBefore d) t) 0

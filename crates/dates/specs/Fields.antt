@@ -8,8 +8,10 @@ use lib.ListN.{getD}
 use lib.Seq.{slice}
 use Rattle.dates.specs.declared.fields.Number.{Number}
 use Rattle.dates.specs.declared.fields.Number.the-variants as number
-use Rattle.dates.specs.declared.fields.Reading.{Reading}
-use Rattle.dates.specs.declared.fields.Reading.the-variants as reading
+use Rattle.dates.specs.declared.fields.ReadDay.{ReadDay}
+use Rattle.dates.specs.declared.fields.ReadDay.the-variants as day
+use Rattle.dates.specs.declared.fields.ReadTime.{ReadTime}
+use Rattle.dates.specs.declared.fields.ReadTime.the-variants as time
 
 -- what is read with a number, where there is one, and `other` where there is none
 abbrev pub given : {R : Type 0} → R → Number → (ℕ → R) → R
@@ -46,17 +48,21 @@ year (b ∷ s) =
 abbrev pub field : List ℕ → ℕ → ℕ → List ℕ
 field text from to = slice from to text
 
--- all fields; the thirteenth byte may be any ASCII byte (document 01, Values)
-unfoldable pub fieldsOf : List ℕ → Reading
-fieldsOf text =
-    let read : Number → (ℕ → Reading) → Reading = given reading.Unreadable in
+-- the first six bytes: yymmdd
+unfoldable pub dayOf : List ℕ → ReadDay
+dayOf text =
+    let read : Number → (ℕ → ReadDay) → ReadDay = given day.Unreadable in
     read (year (field text 0 2)) λ y.
     read (unsigned (field text 2 4)) λ m.
     read (unsigned (field text 4 6)) λ d.
+    day.Is (record { year = y; month = m; day = d })
+
+-- the ten behind them: hhmmss.sss, where the thirteenth byte may be any ASCII byte (document 01, Values)
+unfoldable pub timeOf : List ℕ → ReadTime
+timeOf text =
+    let read : Number → (ℕ → ReadTime) → ReadTime = given time.Unreadable in
     read (unsigned (field text 6 8)) λ h.
-    read (unsigned (field text 8 10)) λ i.
+    read (unsigned (field text 8 10)) λ m.
     read (unsigned (field text 10 12)) λ s.
     read (unsigned (field text 13 16)) λ ms.
-    cond (ltb (getD text 12 0) 128)
-    (reading.Read (record { year = y; month = m; day = d; hour = h; minute = i; second = s; millisecond = ms }))
-    reading.Unreadable
+    cond (ltb (getD text 12 0) 128) (time.Is (record { hour = h; minute = m; second = s; millisecond = ms })) time.Unreadable

@@ -1,9 +1,10 @@
 // The Gregorian calendar.
-use crate::fields::Fields;
+use crate::fields::Day;
+use crate::fields::Time;
 ghost use mathlib.Core.Path.{_≡_};
 ghost use Prim.Native.Nat.{_≤_, _<_};
-ghost use Rattle.dates.specs.Calendar.{leap, february, daysOfMonth, daysBeforeYear, daysBeforeMonth, daysBefore, possibleDate, possibleTime, inMilliseconds, millisecondsOf};
-ghost use Rattle.dates.specs.Bounds.{InRange, DateInRange, TimeInRange};
+ghost use Rattle.dates.specs.Calendar.{leap, february, daysOfMonth, daysBeforeYear, daysBeforeMonth, daysBefore, possibleDay, possibleTime, inMilliseconds, millisecondsOf};
+ghost use Rattle.dates.specs.Bounds.{YearBounds, DayBounds, TimeBounds};
 
 fn leap(year: u64) -> bool
     ensures { λ r. ⌜ r ≡ leap year ⌝ }
@@ -48,43 +49,42 @@ fn days_before_month(year: u64, month: u64) -> u64
     days
 }
 
-fn possible_date(year: u64, month: u64, day: u64) -> bool
-    ensures { λ r. ⌜ r ≡ possibleDate year month day ⌝ }
+fn possible_day(d: Day) -> bool
+    ensures { λ r. ⌜ r ≡ possibleDay d ⌝ }
 {
-    1 <= month && (month <= 12 && (1 <= day && day <= days_of_month(year, month)))
+    1 <= d.month && (d.month <= 12 && (1 <= d.day && d.day <= days_of_month(d.year, d.month)))
 }
 
-fn possible_time(hour: u64, minute: u64, second: u64) -> bool
-    ensures { λ r. ⌜ r ≡ possibleTime hour minute second ⌝ }
+fn possible_time(t: Time) -> bool
+    ensures { λ r. ⌜ r ≡ possibleTime t ⌝ }
 {
-    hour < 24 && (minute < 60 && second < 60)
+    t.hour < 24 && (t.minute < 60 && t.second < 60)
 }
 
-fn days_before(year: u64, month: u64, day: u64) -> u64
-    requires { ⌜ DateInRange year month day ⌝ }
-    ensures { λ r. ⌜ (r ≡ daysBefore year month day) × (r < 60000) ⌝ }
+fn days_before(d: Day) -> u64
+    requires { ⌜ DayBounds d ⌝ }
+    ensures { λ r. ⌜ (r ≡ daysBefore d) × (r < 60000) ⌝ }
 {
-    days_before_year(year) + days_before_month(year, month) + (day - 1)
+    days_before_year(d.year) + days_before_month(d.year, d.month) + (d.day - 1)
 }
 
-fn in_milliseconds(days: u64, hour: u64, minute: u64, second: u64, millisecond: u64) -> u64
-    requires { ⌜ (days < 60000) × TimeInRange hour minute second × (millisecond < 1000) ⌝ }
-    ensures { λ r. ⌜ r ≡ inMilliseconds days hour minute second millisecond ⌝ }
+fn in_milliseconds(days: u64, t: Time) -> u64
+    requires { ⌜ (days < 60000) × TimeBounds t ⌝ }
+    ensures { λ r. ⌜ r ≡ inMilliseconds days t ⌝ }
 {
-    (((days * 24 + hour) * 60 + minute) * 60 + second) * 1000 + millisecond
+    (((days * 24 + t.hour) * 60 + t.minute) * 60 + t.second) * 1000 + t.millisecond
 }
 
 // The milliseconds from the start of 1970 to a moment, and 0 for a moment that the calendar does not have.
-pub fn milliseconds(f: Fields) -> u64
-    requires { ⌜ InRange f ⌝ }
-    ensures { λ r. ⌜ r ≡ millisecondsOf f ⌝ }
+pub(crate) fn milliseconds(d: Day, t: Time) -> u64
+    requires { ⌜ YearBounds d × (t .millisecond < 1000) ⌝ }
+    ensures { λ r. ⌜ r ≡ millisecondsOf d t ⌝ }
 {
-    if !possible_date(f.year, f.month, f.day) {
+    if !possible_day(d) {
         return 0;
     }
-    if !possible_time(f.hour, f.minute, f.second) {
+    if !possible_time(t) {
         return 0;
     }
-    let days = days_before(f.year, f.month, f.day);
-    in_milliseconds(days, f.hour, f.minute, f.second, f.millisecond)
+    in_milliseconds(days_before(d), t)
 }

@@ -2,8 +2,8 @@
 ghost use mathlib.Core.Path.{_≡_};
 ghost use Prim.Native.Nat.{_+_, _-_, _^_, _<_, _≤_};
 ghost use lib.ListN.{length};
-ghost use Rattle.dates.specs.Fields.{digit, digits, unsigned, year, field, fieldsOf};
-ghost use Rattle.dates.specs.Bounds.{Field, Below, AYear, ReadInRange};
+ghost use Rattle.dates.specs.Fields.{digit, digits, unsigned, year, field, dayOf, timeOf};
+ghost use Rattle.dates.specs.Bounds.{Field, Below, AYear, DayInRange, TimeInRange};
 
 // What the bytes of one field stand for.
 pub enum Number {
@@ -11,18 +11,26 @@ pub enum Number {
     Unreadable,
 }
 
-pub struct Fields {
+pub struct Day {
     pub year: u64,
     pub month: u64,
     pub day: u64,
+}
+
+pub struct Time {
     pub hour: u64,
     pub minute: u64,
     pub second: u64,
     pub millisecond: u64,
 }
 
-pub enum Reading {
-    Read(Fields),
+pub enum ReadDay {
+    Is(Day),
+    Unreadable,
+}
+
+pub enum ReadTime {
+    Is(Time),
     Unreadable,
 }
 
@@ -72,50 +80,55 @@ fn year(text: &[u8]) -> Number
     ensures { λ r. ⌜ (r ≡ year (field (now (text .entry)) 0 2)) × AYear r ⌝ }
 {
     if text[0] == b'-' {
-        match digits(text, 1, 2) {
-            Number::Is(n) => Number::Is(2000 - n),
-            Number::Unreadable => Number::Unreadable,
-        }
-    } else {
-        match unsigned(text, 0, 2) {
-            Number::Is(n) => Number::Is(2000 + n),
-            Number::Unreadable => Number::Unreadable,
-        }
+        let Number::Is(n) = digits(text, 1, 2) else {
+            return Number::Unreadable;
+        };
+        return Number::Is(2000 - n);
     }
+    let Number::Is(n) = unsigned(text, 0, 2) else {
+        return Number::Unreadable;
+    };
+    Number::Is(2000 + n)
 }
 
-pub fn parse_fields(text: &[u8]) -> Reading
+// The first six bytes: yymmdd.
+pub(crate) fn parse_day(text: &[u8]) -> ReadDay
     requires { ⌜ 16 ≤ length (now text) ⌝ }
-    ensures { λ r. ⌜ (r ≡ fieldsOf (now (text .entry))) × ReadInRange r ⌝ }
+    ensures { λ r. ⌜ (r ≡ dayOf (now (text .entry))) × DayInRange r ⌝ }
 {
-    if 128 <= text[12] {
-        return Reading::Unreadable;
-    }
     let Number::Is(year) = year(text) else {
-        return Reading::Unreadable;
+        return ReadDay::Unreadable;
     };
     let Number::Is(month) = unsigned(text, 2, 4) else {
-        return Reading::Unreadable;
+        return ReadDay::Unreadable;
     };
     let Number::Is(day) = unsigned(text, 4, 6) else {
-        return Reading::Unreadable;
+        return ReadDay::Unreadable;
     };
+    ReadDay::Is(Day { year, month, day })
+}
+
+// The ten bytes behind them: hhmmss, a byte that may be any ASCII byte, and the milliseconds.
+pub(crate) fn parse_time(text: &[u8]) -> ReadTime
+    requires { ⌜ 16 ≤ length (now text) ⌝ }
+    ensures { λ r. ⌜ (r ≡ timeOf (now (text .entry))) × TimeInRange r ⌝ }
+{
+    if 128 <= text[12] {
+        return ReadTime::Unreadable;
+    }
     let Number::Is(hour) = unsigned(text, 6, 8) else {
-        return Reading::Unreadable;
+        return ReadTime::Unreadable;
     };
     let Number::Is(minute) = unsigned(text, 8, 10) else {
-        return Reading::Unreadable;
+        return ReadTime::Unreadable;
     };
     let Number::Is(second) = unsigned(text, 10, 12) else {
-        return Reading::Unreadable;
+        return ReadTime::Unreadable;
     };
     let Number::Is(millisecond) = unsigned(text, 13, 16) else {
-        return Reading::Unreadable;
+        return ReadTime::Unreadable;
     };
-    Reading::Read(Fields {
-        year,
-        month,
-        day,
+    ReadTime::Is(Time {
         hour,
         minute,
         second,

@@ -2,7 +2,8 @@
 mod calendar;
 mod fields;
 
-use fields::Reading;
+use fields::ReadDay;
+use fields::ReadTime;
 ghost use mathlib.Core.Path.{_≡_};
 ghost use Rattle.dates.specs.Date.{dateOf};
 
@@ -21,8 +22,11 @@ pub fn parse_utcdate(text: &[u8]) -> Date
     if text.len() < 16 {
         return Date::TooFew;
     }
-    match fields::parse_fields(text) {
-        Reading::Read(f) => Date::Milliseconds(calendar::milliseconds(f)),
-        Reading::Unreadable => Date::Unreadable,
-    }
+    let ReadDay::Is(day) = fields::parse_day(text) else {
+        return Date::Unreadable;
+    };
+    let ReadTime::Is(time) = fields::parse_time(text) else {
+        return Date::Unreadable;
+    };
+    Date::Milliseconds(calendar::milliseconds(day, time))
 }

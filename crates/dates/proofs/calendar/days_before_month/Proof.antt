@@ -1,13 +1,11 @@
+-- `days_before_month` meets its contract: after so many turns the days are those of so many months. Assumes nothing.
 use mathlib.Core.Path.{_≡_, refl, ap, _∙_}
-use Prim.Native.Nat.{ℕ, _+_, _*_, _-_, _<_, _≤_}
+use Prim.Native.Nat.{_+_, _*_, _-_, _<_, _≤_}
 use native.Mathlib.Omega.{arith}
 use Rattle.dates.specs.Calendar.{daysOfMonths}
 use Rattle.dates.proofs.Months.{month-at-most-31, next-month}
 use Rattle.dates.proofs.calendar.days_before_month.Statement.{statement}
 use Rattle.dates.proofs.calendar.days_before_month.Tie as tie
-use Rattle.dates.proofs.calendar.days_before_month.Reads as reads
-use Rattle.dates.proofs.calendar.days_before_month.Lts as lts
-use Rattle.dates.proofs.calendar.days_of_month.Reads as days-of-month-reads
 
 abbrev Inv-loop : tie.InvT-loop
 Inv-loop year month days₀ done₀ days done = (done < month) × (days ≡ daysOfMonths year done) × (days ≤ 31 * done)
@@ -15,42 +13,34 @@ Inv-loop year month days₀ done₀ days done = (done < month) × (days ≡ days
 abbrev μ-loop : tie.MeasureT-loop
 μ-loop year month days₀ done₀ days done = month - done
 
--- src/calendar.rt:54:5
 loop-holds : tie.Need-loop-holds Inv-loop μ-loop
 unfolding daysOfMonths
 loop-holds c = (omega arith, refl, omega arith)
 
--- src/calendar.rt:54:18
 sub-loop : tie.Need-sub-loop Inv-loop μ-loop
 sub-loop c = omega arith
 
--- src/calendar.rt:55:9
 add-done : tie.Need-add-done Inv-loop μ-loop
 add-done c = omega arith
 
--- src/calendar.rt:56:17
 days-of-month-requires : tie.Need-days-of-month-requires Inv-loop μ-loop
 days-of-month-requires c κs = (omega arith, omega arith)
 
--- src/calendar.rt:56:9
 add-days : tie.Need-add-days Inv-loop μ-loop
 add-days c =
     let year = c .before .before .before .args .year in
     let done = c .before .before .loop .done in
     omega (arith, month-at-most-31 year (done + 1))
 
--- src/calendar.rt:54:5
 loop-less : tie.Need-loop-less Inv-loop μ-loop
 loop-less c = omega arith
 
--- src/calendar.rt:54:5
 loop-again : tie.Need-loop-again Inv-loop μ-loop
 loop-again c =
     let year = c .before .before .before .args .year in
     let done = c .before .before .loop .done in
     (omega arith, omega (arith, next-month year done), omega (arith, month-at-most-31 year (done + 1)))
 
--- src/calendar.rt:48:1
 returns : tie.Need-returns Inv-loop μ-loop
 returns c =
     let all : c .before .loop .done ≡ c .before .before .args .month - 1 = omega arith in

@@ -1,36 +1,28 @@
+-- `days_before_year` meets its contract, by the law of the formula. Assumes nothing.
 use native.Mathlib.Omega.{arith}
-use Rattle.dates.proofs.Years.{formula}
 use borrow.Author.Needs.{needs}
+use Rattle.dates.proofs.Years.{formula}
 use Rattle.dates.proofs.calendar.days_before_year.Statement.{statement}
 use Rattle.dates.proofs.calendar.days_before_year.Tie as tie
-use Rattle.dates.proofs.calendar.days_before_year.Reads as reads
-use Rattle.dates.proofs.calendar.days_before_year.Lts as lts
 
--- src/calendar.rt:35:13
 sub-y : tie.Need-sub-y
 sub-y c = search needs
 
--- src/calendar.rt:36:5
 mul-result : tie.Need-mul-result
 mul-result c = search needs
 
--- src/calendar.rt:36:5
 add-result : tie.Need-add-result
 add-result c = search needs
 
--- src/calendar.rt:36:5
 sub-result : tie.Need-sub-result
 sub-result c = search needs
 
--- src/calendar.rt:36:5
 add-result-2 : tie.Need-add-result-2
 add-result-2 c = search needs
 
--- src/calendar.rt:36:5
 sub-result-2 : tie.Need-sub-result-2
 sub-result-2 c = omega (arith, formula (c .args .year) (omega arith))
 
--- src/calendar.rt:31:1
 returns : tie.Need-returns
 returns c = omega (arith, formula (c .args .year) (omega arith))
 

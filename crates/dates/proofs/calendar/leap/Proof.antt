@@ -1,18 +1,14 @@
+-- `leap` meets its contract, test by test. Assumes nothing.
 use borrow.Author.Tests.{eq-eqb, ne-eqb}
 use Rattle.dates.proofs.calendar.leap.Statement.{statement}
 use Rattle.dates.proofs.calendar.leap.Tie as tie
-use Rattle.dates.proofs.calendar.leap.Reads as reads
-use Rattle.dates.proofs.calendar.leap.Lts as lts
 
--- src/calendar.rt:9:1
 returns : tie.Need-returns
 returns c = rw (eq-eqb _ 0 (c .before .if1 .taken), ne-eqb _ 0 (c .if2 .taken))
 
--- src/calendar.rt:9:1
 returns-2 : tie.Need-returns-2
 returns-2 c = rw (eq-eqb _ 0 (c .before .if1 .taken), eq-eqb _ 0 (c .if2 .left))
 
--- src/calendar.rt:9:1
 returns-3 : tie.Need-returns-3
 returns-3 c = rw (ne-eqb _ 0 (c .if1 .left))
 

@@ -1,16 +1,14 @@
+-- `digits` meets its contract: at each byte the digits left over, behind the number so far, stand for the number of all. Assumes nothing.
 use mathlib.Core.Path.{_≡_, ap, sym, subst, _∙_}
-use Prim.Native.Nat.{ℕ, _+_, _*_, _-_, _^_, _<_, _≤_}
+use Prim.Native.Nat.{ℕ, _+_, _-_, _^_, _<_, _≤_}
 use native.Mathlib.Omega.{arith}
 use borrow.Author.Needs.{needs}
 use lib.Dec.{lit<}
-use Rattle.dates.specs.Fields.{digitsAfter, digits, field}
 use Rattle.dates.specs.Bounds.{Below}
+use Rattle.dates.specs.Fields.{digitsAfter, digits, field}
 use Rattle.dates.proofs.Digits.{from-none, one-more, no-digit, no-more, ten-times, ten-times-fits}
 use Rattle.dates.proofs.fields.digits.Statement.{statement}
 use Rattle.dates.proofs.fields.digits.Tie as tie
-use Rattle.dates.proofs.fields.digits.Reads as reads
-use Rattle.dates.proofs.fields.digits.Lts as lts
-use Rattle.dates.proofs.fields.digit.Reads as digit-reads
 
 abbrev Inv-loop : tie.InvT-loop
 Inv-loop text from to number₀ i₀ number i =
@@ -19,30 +17,24 @@ Inv-loop text from to number₀ i₀ number i =
 abbrev μ-loop : tie.MeasureT-loop
 μ-loop text from to number₀ i₀ number i = to - i
 
--- src/fields.rt:48:5
 loop-holds : tie.Need-loop-holds Inv-loop μ-loop
 loop-holds c =
     let a = c .before .args in
     let none : a .from - a .from ≡ 0 = omega arith in
     (omega arith, omega arith, from-none (a .text .now) (a .from) (a .to) (omega arith) (omega arith), rw none (lit< tt))
 
--- src/fields.rt:49:35
 shared-slice-read-digit : tie.Need-shared-slice-read-digit Inv-loop μ-loop
 shared-slice-read-digit c = omega arith
 
--- src/fields.rt:49:29
 digit-requires : tie.Need-digit-requires Inv-loop μ-loop
 digit-requires c κs = tt
 
--- src/fields.rt:49:24
 enum-known-d : tie.Need-enum-known-d Inv-loop μ-loop
 enum-known-d c = search needs
 
--- src/fields.rt:50:13
 enum-told : tie.Need-enum-told Inv-loop μ-loop
 enum-told c = search needs
 
--- src/fields.rt:50:13
 returns : tie.Need-returns Inv-loop μ-loop
 returns c =
     let l = c .before .before .before .before .before in
@@ -50,14 +42,12 @@ returns c =
     let other = sym (c .before .before .digit .ensures .0) ∙ c .enum-told .given .1 in
     (sym (l .loop .inv .2 ∙ no-digit (a .text .now) (l .loop .i) (a .to) (omega arith) (omega arith) (l .loop .number) other), tt)
 
--- src/fields.rt:52:18
 mul-number : tie.Need-mul-number Inv-loop μ-loop
 mul-number c =
     let l = c .before .before .before .before .before .before in
     let k = l .loop .i - l .before .before .args .from in
     omega (arith, ten-times-fits k (l .loop .number) 0 (omega arith) (l .loop .inv .3) (lit< tt))
 
--- src/fields.rt:52:18
 add-number : tie.Need-add-number Inv-loop μ-loop
 add-number c =
     let l = c .before .before .before .before .before .before in
@@ -65,15 +55,12 @@ add-number c =
     let small = subst (Below 10) (c .before .d .given .1) (c .before .before .before .digit .ensures .1) in
     record { fits = ten-times-fits k (l .loop .number) (c .before .d .given .0 .0) (omega arith) (l .loop .inv .3) small }
 
--- src/fields.rt:53:9
 add-i : tie.Need-add-i Inv-loop μ-loop
 add-i c = omega arith
 
--- src/fields.rt:48:5
 loop-less : tie.Need-loop-less Inv-loop μ-loop
 loop-less c = omega arith
 
--- src/fields.rt:48:5
 loop-again : tie.Need-loop-again Inv-loop μ-loop
 loop-again c =
     let l = c .before .before .before .before .before .before in
@@ -85,7 +72,6 @@ loop-again c =
     let k : l .loop .i + 1 - a .from ≡ l .loop .i - a .from + 1 = omega arith in
     (omega arith, omega arith, l .loop .inv .2 ∙ next, rw k (ten-times (l .loop .i - a .from) (l .loop .number) d (l .loop .inv .3) small))
 
--- src/fields.rt:42:1
 returns-2 : tie.Need-returns-2 Inv-loop μ-loop
 returns-2 c =
     let l = c .before in

@@ -1,38 +1,30 @@
+-- `unsigned` meets its contract, by the laws of a field with and without `+`. Assumes nothing.
 use mathlib.Core.Path.{sym, _∙_}
 use Prim.Native.Nat.{_+_, _-_}
 use native.Mathlib.Omega.{arith}
-use Rattle.dates.proofs.Signs.{plus, no-plus, wider}
 use borrow.Author.Needs.{needs}
+use Rattle.dates.proofs.Signs.{plus, no-plus, wider}
 use Rattle.dates.proofs.fields.unsigned.Statement.{statement}
 use Rattle.dates.proofs.fields.unsigned.Tie as tie
-use Rattle.dates.proofs.fields.unsigned.Reads as reads
-use Rattle.dates.proofs.fields.unsigned.Lts as lts
-use Rattle.dates.proofs.fields.digits.Reads as digits-reads
 
--- src/fields.rt:63:8
 shared-slice-read-if1 : tie.Need-shared-slice-read-if1
 shared-slice-read-if1 c = search needs
 
--- src/fields.rt:64:29
 add-digits : tie.Need-add-digits
 add-digits c = search needs
 
--- src/fields.rt:64:9
 digits-requires : tie.Need-digits-requires
 digits-requires c κs = search needs
 
--- src/fields.rt:64:9
 returns : tie.Need-returns
 returns c =
     let a = c .before .before .before .before .args in
     let is = c .digits .ensures .0 ∙ sym (plus (a .text .now) (a .from) (a .to) (omega arith) (omega arith) (c .before .if1 .taken)) in
     (is, wider (a .to - (a .from + 1)) (a .to - a .from) (c .digits .result) (omega arith) (c .digits .ensures .1))
 
--- src/fields.rt:66:5
 digits-requires-2 : tie.Need-digits-requires-2
 digits-requires-2 c κs = search needs
 
--- src/fields.rt:59:1
 returns-2 : tie.Need-returns-2
 returns-2 c =
     let a = c .before .before .before .before .args in
