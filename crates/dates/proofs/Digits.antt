@@ -5,12 +5,13 @@ use mathlib.Core.List.{List}
 use native.Mathlib.Nat.{pow-suc, pow-le-pow-right}
 use native.Mathlib.Numerals.{add-one}
 use native.Mathlib.Omega.{arith}
+use borrow.Author.Tests.{le-leb, lt-leb}
 use lib.Arith.{digits-lt}
 use lib.Dec.{lit<}
 use lib.ListN.{length, getD}
 use lib.Seq.{slice-cons, slice-empty}
 use Rattle.dates.specs.declared.fields.Number.the-variants as number
-use Rattle.dates.specs.Fields.{digit, digitsAfter, digits, field}
+use Rattle.dates.specs.Fields.{digitsAfter, digits, field}
 
 module _ (text : List ℕ) (i to : ℕ) (some : i < to) (inside : to ≤ length text) where
   -- a field with a byte
@@ -18,14 +19,18 @@ module _ (text : List ℕ) (i to : ℕ) (some : i < to) (inside : to ≤ length 
   from-none = rw (slice-cons i to text 0 some inside)
 
   -- its first byte is a digit
-  pub one-more : (n d : ℕ) → digit (getD text i 0) ≡ number.Is d → digitsAfter n (field text i to) ≡ digitsAfter (n * 10 + d) (field text (i + 1) to)
+  pub one-more : (n : ℕ) → 48 ≤ getD text i 0 → getD text i 0 ≤ 57 → digitsAfter n (field text i to) ≡ digitsAfter (n * 10 + (getD text i 0 - 48)) (field text (i + 1) to)
   unfolding digitsAfter
-  one-more n d h = rw (slice-cons i to text 0 some inside, add-one, h)
+  one-more n low high = rw (slice-cons i to text 0 some inside, add-one, le-leb 48 (getD text i 0) low, le-leb (getD text i 0) 57 high)
 
-  -- its first byte is none
-  pub no-digit : (n : ℕ) → digit (getD text i 0) ≡ number.Unreadable → digitsAfter n (field text i to) ≡ number.Unreadable
+  -- its first byte is below or above the digits
+  pub below : (n : ℕ) → getD text i 0 < 48 → digitsAfter n (field text i to) ≡ number.Unreadable
   unfolding digitsAfter
-  no-digit n h = rw (slice-cons i to text 0 some inside, h)
+  below n h = rw (slice-cons i to text 0 some inside, lt-leb 48 (getD text i 0) h)
+
+  pub above : (n : ℕ) → 48 ≤ getD text i 0 → 57 < getD text i 0 → digitsAfter n (field text i to) ≡ number.Unreadable
+  unfolding digitsAfter
+  above n low h = rw (slice-cons i to text 0 some inside, le-leb 48 (getD text i 0) low, lt-leb (getD text i 0) 57 h)
 
 pub no-more : (text : List ℕ) (to n : ℕ) → digitsAfter n (field text to to) ≡ number.Is n
 unfolding digitsAfter

@@ -2,7 +2,7 @@
 ghost use mathlib.Core.Path.{_≡_};
 ghost use Prim.Native.Nat.{_+_, _-_, _^_, _<_, _≤_};
 ghost use lib.ListN.{length};
-ghost use Rattle.dates.specs.Fields.{digit, digits, unsigned, year, field, dayOf, timeOf};
+ghost use Rattle.dates.specs.Fields.{digits, unsigned, year, field, dayOf, timeOf};
 ghost use Rattle.dates.specs.Bounds.{Field, Below, AYear, DayInRange, TimeInRange};
 
 // What the bytes of one field stand for.
@@ -34,18 +34,6 @@ pub enum ReadTime {
     Unreadable,
 }
 
-fn digit(b: u8) -> Number
-    ensures { λ r. ⌜ (r ≡ digit b) × Below 10 r ⌝ }
-{
-    if b < b'0' {
-        return Number::Unreadable;
-    }
-    if b'9' < b {
-        return Number::Unreadable;
-    }
-    Number::Is((b - b'0') as u64)
-}
-
 // The digits of a field, and nothing else.
 fn digits(text: &[u8], from: usize, to: usize) -> Number
     requires { ⌜ Field (now text) from to ⌝ }
@@ -54,10 +42,14 @@ fn digits(text: &[u8], from: usize, to: usize) -> Number
     let mut number: u64 = 0;
     let mut i = from;
     while i < to {
-        let Number::Is(d) = digit(text[i]) else {
+        let b = text[i];
+        if b < b'0' {
             return Number::Unreadable;
-        };
-        number = number * 10 + d;
+        }
+        if b'9' < b {
+            return Number::Unreadable;
+        }
+        number = number * 10 + (b - b'0') as u64;
         i += 1;
     }
     Number::Is(number)

@@ -1,12 +1,11 @@
 -- `digits` meets its contract: at each byte the digits left over, behind the number so far, stand for the number of all. Assumes nothing.
-use mathlib.Core.Path.{_≡_, ap, sym, subst, _∙_}
+use mathlib.Core.Path.{_≡_, ap, sym, _∙_}
 use Prim.Native.Nat.{ℕ, _+_, _-_, _^_, _<_, _≤_}
 use native.Mathlib.Omega.{arith}
-use borrow.Author.Needs.{needs}
 use lib.Dec.{lit<}
-use Rattle.dates.specs.Bounds.{Below}
+use lib.ListN.{getD}
 use Rattle.dates.specs.Fields.{digitsAfter, digits, field}
-use Rattle.dates.proofs.Digits.{from-none, one-more, no-digit, no-more, ten-times, ten-times-fits}
+use Rattle.dates.proofs.Digits.{from-none, one-more, below, above, no-more, ten-times, ten-times-fits}
 use Rattle.dates.proofs.fields.digits.Statement.{statement}
 use Rattle.dates.proofs.fields.digits.Tie as tie
 
@@ -19,41 +18,40 @@ abbrev μ-loop : tie.MeasureT-loop
 
 loop-holds : tie.Need-loop-holds Inv-loop μ-loop
 loop-holds c =
-    let a = c .before .args in
+    let a = c .args in
     let none : a .from - a .from ≡ 0 = omega arith in
     (omega arith, omega arith, from-none (a .text .now) (a .from) (a .to) (omega arith) (omega arith), rw none (lit< tt))
 
-shared-slice-read-digit : tie.Need-shared-slice-read-digit Inv-loop μ-loop
-shared-slice-read-digit c = omega arith
-
-digit-requires : tie.Need-digit-requires Inv-loop μ-loop
-digit-requires c κs = tt
-
-enum-known-d : tie.Need-enum-known-d Inv-loop μ-loop
-enum-known-d c = search needs
-
-enum-told : tie.Need-enum-told Inv-loop μ-loop
-enum-told c = search needs
+shared-slice-read-b : tie.Need-shared-slice-read-b Inv-loop μ-loop
+shared-slice-read-b c = omega arith
 
 returns : tie.Need-returns Inv-loop μ-loop
 returns c =
-    let l = c .before .before .before .before .before in
-    let a = l .before .before .args in
-    let other = sym (c .before .before .digit .ensures .0) ∙ c .enum-told .given .1 in
-    (sym (l .loop .inv .2 ∙ no-digit (a .text .now) (l .loop .i) (a .to) (omega arith) (omega arith) (l .loop .number) other), tt)
+    let l = c .before .before .before in
+    let a = l .before .args in
+    (sym (l .loop .inv .2 ∙ below (a .text .now) (l .loop .i) (a .to) (omega arith) (omega arith) (l .loop .number) (c .if1 .taken)), tt)
+
+returns-2 : tie.Need-returns-2 Inv-loop μ-loop
+returns-2 c =
+    let l = c .before .before .before .before in
+    let a = l .before .args in
+    (sym (l .loop .inv .2 ∙ above (a .text .now) (l .loop .i) (a .to) (omega arith) (omega arith) (l .loop .number) (c .before .if1 .left) (c .if2 .taken)), tt)
 
 mul-number : tie.Need-mul-number Inv-loop μ-loop
 mul-number c =
-    let l = c .before .before .before .before .before .before in
-    let k = l .loop .i - l .before .before .args .from in
-    omega (arith, ten-times-fits k (l .loop .number) 0 (omega arith) (l .loop .inv .3) (lit< tt))
+    let l = c .before .before .before .before in
+    let a = l .before .args in
+    omega (arith, ten-times-fits (l .loop .i - a .from) (l .loop .number) 0 (omega arith) (l .loop .inv .3) (lit< tt))
+
+cast-number : tie.Need-cast-number Inv-loop μ-loop
+cast-number c = omega arith
 
 add-number : tie.Need-add-number Inv-loop μ-loop
 add-number c =
-    let l = c .before .before .before .before .before .before in
-    let k = l .loop .i - l .before .before .args .from in
-    let small = subst (Below 10) (c .before .d .given .1) (c .before .before .before .digit .ensures .1) in
-    record { fits = ten-times-fits k (l .loop .number) (c .before .d .given .0 .0) (omega arith) (l .loop .inv .3) small }
+    let l = c .before .before .before .before in
+    let a = l .before .args in
+    let d = getD (a .text .now) (l .loop .i) 0 - 48 in
+    record { fits = ten-times-fits (l .loop .i - a .from) (l .loop .number) d (omega arith) (l .loop .inv .3) (omega arith) }
 
 add-i : tie.Need-add-i Inv-loop μ-loop
 add-i c = omega arith
@@ -63,19 +61,17 @@ loop-less c = omega arith
 
 loop-again : tie.Need-loop-again Inv-loop μ-loop
 loop-again c =
-    let l = c .before .before .before .before .before .before in
-    let a = l .before .before .args in
-    let d = c .before .d .given .0 .0 in
-    let is = sym (c .before .before .before .digit .ensures .0) ∙ c .before .d .given .1 in
-    let small = subst (Below 10) (c .before .d .given .1) (c .before .before .before .digit .ensures .1) in
-    let next = one-more (a .text .now) (l .loop .i) (a .to) (omega arith) (omega arith) (l .loop .number) d is in
+    let l = c .before .before .before .before in
+    let a = l .before .args in
+    let d = getD (a .text .now) (l .loop .i) 0 - 48 in
+    let next = one-more (a .text .now) (l .loop .i) (a .to) (omega arith) (omega arith) (l .loop .number) (c .before .if1 .left) (c .if2 .left) in
     let k : l .loop .i + 1 - a .from ≡ l .loop .i - a .from + 1 = omega arith in
-    (omega arith, omega arith, l .loop .inv .2 ∙ next, rw k (ten-times (l .loop .i - a .from) (l .loop .number) d (l .loop .inv .3) small))
+    (omega arith, omega arith, l .loop .inv .2 ∙ next, rw k (ten-times (l .loop .i - a .from) (l .loop .number) d (l .loop .inv .3) (omega arith)))
 
-returns-2 : tie.Need-returns-2 Inv-loop μ-loop
-returns-2 c =
+returns-3 : tie.Need-returns-3 Inv-loop μ-loop
+returns-3 c =
     let l = c .before in
-    let a = l .before .before .args in
+    let a = l .before .args in
     let all : l .loop .i ≡ a .to = omega arith in
     let rest = ap (λ (i : ℕ). digitsAfter (l .loop .number) (field (a .text .now) i (a .to))) all in
     (sym (l .loop .inv .2 ∙ rest ∙ no-more (a .text .now) (a .to) (l .loop .number)), rw all at (l .loop .inv .3))
@@ -87,14 +83,13 @@ digits-spec =
     Inv-loop
     μ-loop
     loop-holds
-    shared-slice-read-digit
-    digit-requires
-    enum-known-d
-    enum-told
+    shared-slice-read-b
     returns
+    returns-2
     mul-number
+    cast-number
     add-number
     add-i
     loop-less
     loop-again
-    returns-2)
+    returns-3)
