@@ -9,7 +9,7 @@ use Rattle.dates.specs.Calendar.{millisecondsOf, possibleDay, possibleTi
 use Rattle.dates.specs.Fields.{dayOf, timeOf, year, unsigned, digitsAfter}
 use Rattle.dates.specs.Date.{dateOf, refusal}
 
-abbrev date : String → Date
+abbrev pub date : String → Date
 date text = dateOf (characters text)
 
 -- CASE 9
@@ -18,10 +18,10 @@ unfolding dateOf dayOf timeOf year unsigned digitsAfter millisecondsOf possibleD
 case-9 = (refl, refl)
 
 -- a text and its date
-abbrev Row : Type 0
+abbrev pub Row : Type 0
 Row = String × Date
 
-abbrev rows : List Row
+abbrev pub rows : List Row
 rows =
     ("700101000000.000", Milliseconds 3155760000000)  -- the year counts from 2000
     ∷ ("-91231235959.999", Milliseconds 694223999999)  -- 1991, the first year that a text can say
@@ -40,10 +40,12 @@ rows =
     ∷ ("240229120060.000", Milliseconds 0)  -- second 60
     ∷ []
 
+-- each is read as listed
 pub as-listed : map (λ (r : Row). date (r .0)) rows ≡ map (λ (r : Row). r .1) rows
 unfolding dateOf dayOf timeOf year unsigned digitsAfter millisecondsOf possibleDay possibleTime daysOfMonth daysOfMonths daysOfYear daysOfYears
 as-listed = refl
 
+-- document 01, Refusal numbers
 pub refusal-numbers : (refusal (date "240229120000.00") ≡ 6) × (refusal (date "24-229120000.000") ≡ 7)
 unfolding dateOf dayOf timeOf year unsigned digitsAfter
 refusal-numbers = (refl, refl)

@@ -6,7 +6,7 @@ use native.Mathlib.Decide.{decLt}
 use native.Mathlib.Omega.{arith}
 use borrow.Author.Tests.{le-ltb}
 use lib.Dec.{lit<, lit≤}
-use lib.ListN.{length, take, getD, length-take}
+use lib.ListN.{length, take, length-take}
 use lib.Seq.{take-all, take-take, getD-take}
 use Rattle.dates.specs.Fields.{dayOf, timeOf}
 use Rattle.dates.specs.Date.{dateOf}

@@ -1,5 +1,4 @@
 -- A field that is not read leaves the whole unread, whatever stands before it. Assumes nothing.
-use Prim.Native.Nat.{ℕ}
 use mathlib.Core.Path.{_≡_, refl}
 use Rattle.dates.specs.declared.fields.Number.{Number}
 use Rattle.dates.specs.declared.fields.Number.the-variants as number

@@ -56,10 +56,9 @@ year-by-year (suc n) =
     let by-4 : (y + 1) / 4 ≡ y / 4 + tick (divides 4 (y + 1)) = one-more 4 y (lit< tt) _ refl in
     let by-100 : (y + 1) / 100 ≡ y / 100 + tick (divides 100 (y + 1)) = one-more 100 y (lit< tt) _ refl in
     let by-400 : (y + 1) / 400 ≡ y / 400 + tick (divides 400 (y + 1)) = one-more 400 y (lit< tt) _ refl in
-    let leap =
-    as-a-sum (divides 4 (y + 1)) (divides 100 (y + 1)) (divides 400 (y + 1))
-    (λ e. eq-eqb ((y + 1) % 4) 0 (omega (arith, eqb-true ((y + 1) % 100) 0 e)))
-    (λ e. eq-eqb ((y + 1) % 100) 0 (omega (arith, eqb-true ((y + 1) % 400) 0 e))) in
+    let in-4 : divides 100 (y + 1) ≡ true → divides 4 (y + 1) ≡ true = λ e. eq-eqb ((y + 1) % 4) 0 (omega (arith, eqb-true ((y + 1) % 100) 0 e)) in
+    let in-100 : divides 400 (y + 1) ≡ true → divides 100 (y + 1) ≡ true = λ e. eq-eqb ((y + 1) % 100) 0 (omega (arith, eqb-true ((y + 1) % 400) 0 e)) in
+    let leap = as-a-sum (divides 4 (y + 1)) (divides 100 (y + 1)) (divides 400 (y + 1)) in-4 in-100 in
     rw (this, next, by-4, by-100, by-400) (omega (arith, leap, year-by-year n))
 
 -- THE FORMULA: with y the year before, 365 y + y / 4 - y / 100 + y / 400 - 719162

@@ -8,6 +8,7 @@ use lib.ListN.{getD}
 use Rattle.dates.specs.declared.fields.Day.{Day}
 use Rattle.dates.specs.declared.fields.Time.{Time}
 
+-- a year that n divides
 abbrev pub divides : ℕ → ℕ → Bool
 divides n year = eqb (year % n) 0
 
@@ -15,6 +16,7 @@ divides n year = eqb (year % n) 0
 abbrev pub leap : ℕ → Bool
 leap year = divides 4 year && (not (divides 100 year) || divides 400 year)
 
+-- February has 29 days in a leap year, and 28 in another
 abbrev pub february : ℕ → ℕ
 february year = cond (leap year) 29 28
 
@@ -26,6 +28,7 @@ months year = 31 ∷ february year ∷ 31 ∷ 30 ∷ 31 ∷ 30 ∷ 31 ∷ 31 ∷
 unfoldable pub daysOfMonth : ℕ → ℕ → ℕ
 daysOfMonth year month = getD (months year) (month - 1) 0
 
+-- a leap year has 366 days, and another 365
 unfoldable pub daysOfYear : ℕ → ℕ
 daysOfYear year = cond (leap year) 366 365
 
@@ -39,20 +42,23 @@ unfoldable pub daysOfMonths : ℕ → ℕ → ℕ
 daysOfMonths year zero = 0
 daysOfMonths year (suc n) = daysOfMonths year n + daysOfMonth year (suc n)
 
--- the days of the years and months before a date, and of its month before its day
+-- the days of the years from 1970 to before a year
 abbrev pub daysBeforeYear : ℕ → ℕ
 daysBeforeYear year = daysOfYears (year - 1970)
 
+-- the days of the year's months before a month
 abbrev pub daysBeforeMonth : ℕ → ℕ → ℕ
 daysBeforeMonth year month = daysOfMonths year (month - 1)
 
+-- the days before a day: of the years, of the months, and of the month
 abbrev pub daysBefore : Day → ℕ
 daysBefore d = daysBeforeYear (d .year) + daysBeforeMonth (d .year) (d .month) + (d .day - 1)
 
--- a day and a time that the calendar has; there is no second 60
+-- a day that the calendar has (document 01, Values: "an impossible date or time gives 0 ms")
 unfoldable pub possibleDay : Day → Bool
 possibleDay d = leb 1 (d .month) && (leb (d .month) 12 && (leb 1 (d .day) && leb (d .day) (daysOfMonth (d .year) (d .month))))
 
+-- a time that a day has; there is no second 60
 unfoldable pub possibleTime : Time → Bool
 possibleTime t = ltb (t .hour) 24 && (ltb (t .minute) 60 && ltb (t .second) 60)
 

@@ -1,7 +1,7 @@
 -- The numbers in a date's text, yymmddhhmmss.sss: GPMF description, Types (U), and document 01, Values. Assumes nothing: these are definitions.
 use Prim.Native.Nat.{ℕ, _+_, _-_, _*_}
 use Prim.Native.Char.{code}
-use mathlib.Core.Bool.{Bool, cond, _&&_}
+use mathlib.Core.Bool.{cond, _&&_}
 use mathlib.Core.List.{List, [], _∷_}
 use lib.Dec.{eqb, leb, ltb}
 use lib.ListN.{getD}
@@ -18,6 +18,7 @@ abbrev pub given : {R : Type 0} → R → Number → (ℕ → R) → R
 given other (number.Is n) rest = rest n
 given other number.Unreadable rest = other
 
+-- the digit that a byte is, where it is one
 abbrev pub digit : ℕ → Number
 digit b = cond (leb (code "0") b && leb b (code "9")) (number.Is (b - code "0")) number.Unreadable
 
