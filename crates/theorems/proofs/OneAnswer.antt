@@ -4,6 +4,7 @@ use Prim.Native.Nat.{ℕ}
 use mathlib.Core.Path.{_≡_, sym, _∙_}
 use mathlib.Core.List.{List}
 use contract.Lifetimes.{Lfts}
+use denote.Ref.{now}
 use denote.Triple.Clauses.{AtExit}
 use borrow.Fn.Kinds.{PK, RK, Out, Dens, resT, endedOf}
 use Rattle.foundation.proofs.big_endian.Kinds as big-endian-kinds
@@ -30,6 +31,28 @@ use Rattle.fixed.proofs.q31_32.Kinds as q31-32-kinds
 use Rattle.fixed.proofs.q31_32.Reads as q31-32-reads
 use Rattle.fixed.proofs.q31_32_exact.Kinds as q31-32-exact-kinds
 use Rattle.fixed.proofs.q31_32_exact.Reads as q31-32-exact-reads
+use Rattle.custom_type.proofs.resolve_custom_type.Kinds as resolve-custom-type-kinds
+use Rattle.custom_type.proofs.resolve_custom_type.Reads as resolve-custom-type-reads
+use Rattle.dates.proofs.parse_utcdate.Kinds as parse-utcdate-kinds
+use Rattle.dates.proofs.parse_utcdate.Reads as parse-utcdate-reads
+use Rattle.texts.proofs.latin1_len.Kinds as latin1-len-kinds
+use Rattle.texts.proofs.latin1_len.Reads as latin1-len-reads
+use Rattle.texts.proofs.utf8_len.Kinds as utf8-len-kinds
+use Rattle.texts.proofs.utf8_len.Reads as utf8-len-reads
+use Rattle.texts.proofs.is_utf8.Kinds as is-utf8-kinds
+use Rattle.texts.proofs.is_utf8.Reads as is-utf8-reads
+use Rattle.texts.proofs.are_utf8.Kinds as are-utf8-kinds
+use Rattle.texts.proofs.are_utf8.Reads as are-utf8-reads
+use Rattle.elements.proofs.width.Kinds as width-kinds
+use Rattle.elements.proofs.width.Reads as width-reads
+use Rattle.elements.proofs.element_at.Kinds as element-at-kinds
+use Rattle.elements.proofs.element_at.Reads as element-at-reads
+use Rattle.values.proofs.element.Kinds as element-kinds
+use Rattle.values.proofs.element.Reads as element-reads
+use Rattle.values.proofs.shape_at.Kinds as shape-at-kinds
+use Rattle.values.proofs.shape_at.Reads as shape-at-reads
+use Rattle.values.proofs.columns_at.Kinds as columns-at-kinds
+use Rattle.values.proofs.columns_at.Reads as columns-at-reads
 
 -- a promise over n lifetimes, parameters and a result settles the result
 abbrev pub OneResult : (n : ℕ) (parameters : List (PK n)) (result : RK n) → Out n parameters result → Type 0
@@ -72,3 +95,43 @@ q31-32 κs a x y s t p q = p ∙ sym q
 
 pub q31-32-exact : OneResult 0 q31-32-exact-kinds.ps q31-32-exact-kinds.r q31-32-exact-reads.Learnt
 q31-32-exact κs a x y s t p q = p ∙ sym q
+
+-- a promise settles the result and the buffer that was lent: what `lent` reads of the parameters at exit
+abbrev pub OneAnswer : {B : Type 0} (n : ℕ) (parameters : List (PK n)) (result : RK n) → Out n parameters result
+    → ((κs : Lfts n) → AtExit (endedOf n parameters result) κs → B) → Type 0
+OneAnswer n parameters result promise lent =
+    (κs : Lfts n) (a : Dens κs parameters) (x y : resT result κs .Denot) (s t : AtExit (endedOf n parameters result) κs)
+    → promise κs a x s → promise κs a y t → (x ≡ y) × (lent κs s ≡ lent κs t)
+
+pub resolve-custom-type : OneAnswer 2 resolve-custom-type-kinds.ps resolve-custom-type-kinds.r resolve-custom-type-reads.Learnt (λ κs s. now (s .1 .0))
+resolve-custom-type κs a x y s t p q = (p .is ∙ sym (q .is), p .out ∙ sym (q .out))
+
+pub parse-utcdate : OneResult 1 parse-utcdate-kinds.ps parse-utcdate-kinds.r parse-utcdate-reads.Learnt
+parse-utcdate κs a x y s t p q = p ∙ sym q
+
+pub latin1-len : OneResult 1 latin1-len-kinds.ps latin1-len-kinds.r latin1-len-reads.Learnt
+latin1-len κs a x y s t p q = p ∙ sym q
+
+pub utf8-len : OneResult 1 utf8-len-kinds.ps utf8-len-kinds.r utf8-len-reads.Learnt
+utf8-len κs a x y s t p q = p ∙ sym q
+
+pub is-utf8 : OneResult 1 is-utf8-kinds.ps is-utf8-kinds.r is-utf8-reads.Learnt
+is-utf8 κs a x y s t p q = p ∙ sym q
+
+pub are-utf8 : OneResult 1 are-utf8-kinds.ps are-utf8-kinds.r are-utf8-reads.Learnt
+are-utf8 κs a x y s t p q = p ∙ sym q
+
+pub width : OneResult 0 width-kinds.ps width-kinds.r width-reads.Learnt
+width κs a x y s t p q = p .0 ∙ sym (q .0)
+
+pub element-at : OneResult 1 element-at-kinds.ps element-at-kinds.r element-at-reads.Learnt
+element-at κs a x y s t p q = p ∙ sym q
+
+pub element : OneResult 1 element-kinds.ps element-kinds.r element-reads.Learnt
+element κs a x y s t p q = p ∙ sym q
+
+pub shape-at : OneResult 1 shape-at-kinds.ps shape-at-kinds.r shape-at-reads.Learnt
+shape-at κs a x y s t p q = p ∙ sym q
+
+pub columns-at : OneResult 1 columns-at-kinds.ps columns-at-kinds.r columns-at-reads.Learnt
+columns-at κs a x y s t p q = p ∙ sym q

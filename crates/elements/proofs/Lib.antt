@@ -1,0 +1,3 @@
+mod Keys
+mod Nans
+mod TwosComplement

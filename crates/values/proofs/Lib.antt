@@ -1,0 +1,7 @@
+mod Cells
+mod EvenRows
+mod Letters
+mod Places
+mod Plans
+mod SeveralTexts
+mod Structured

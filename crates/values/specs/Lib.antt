@@ -1,0 +1,4 @@
+pub mod Value
+pub mod At
+pub mod Small
+pub mod Parts
