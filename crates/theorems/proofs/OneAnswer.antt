@@ -25,6 +25,10 @@ use Rattle.klv.proofs.Cursor.new.Kinds as new-kinds
 use Rattle.klv.proofs.Cursor.new.Reads as new-reads
 use Rattle.klv.proofs.Cursor.parse_header.Kinds as parse-header-kinds
 use Rattle.klv.proofs.Cursor.parse_header.Reads as parse-header-reads
+use Rattle.last_item.proofs.last_item.Kinds as last-item-kinds
+use Rattle.last_item.proofs.last_item.Reads as last-item-reads
+use Rattle.last_item.proofs.get_last_klv.Kinds as get-last-klv-kinds
+use Rattle.last_item.proofs.get_last_klv.Reads as get-last-klv-reads
 use Rattle.fixed.proofs.q15_16.Kinds as q15-16-kinds
 use Rattle.fixed.proofs.q15_16.Reads as q15-16-reads
 use Rattle.fixed.proofs.q31_32.Kinds as q31-32-kinds
@@ -86,6 +90,12 @@ new κs a x y s t p q = λ i. record { at = (p ∙ sym q) i }
 
 pub parse-header : OneResult 1 parse-header-kinds.ps parse-header-kinds.r parse-header-reads.Learnt
 parse-header κs a x y s t p q = p ∙ sym q
+
+pub last-item : OneResult 1 last-item-kinds.ps last-item-kinds.r last-item-reads.Learnt
+last-item κs a x y s t p q = p ∙ sym q
+
+pub get-last-klv : OneResult 1 get-last-klv-kinds.ps get-last-klv-kinds.r get-last-klv-reads.Learnt
+get-last-klv κs a x y s t p q = p ∙ sym q
 
 pub q15-16 : OneResult 0 q15-16-kinds.ps q15-16-kinds.r q15-16-reads.Learnt
 q15-16 κs a x y s t p q = p ∙ sym q
