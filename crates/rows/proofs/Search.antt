@@ -1,14 +1,18 @@
 -- The lookup from the end: the last row asked for is the one at the end, or else it is that of the rows before. Hence what is found is a row asked for,
 -- and no row behind it is. Assumes nothing.
-use Prim.Native.Nat.{ℕ, zero, suc, _+_, _*_, _<_, _≤_}
+use Prim.Native.Nat.{ℕ, zero, suc, _+_, _-_, _*_, _<_, _≤_}
 use mathlib.Core.Path.{_≡_, refl, ap, sym, _∙_}
 use mathlib.Core.Bool.{Bool, true, false, cond}
 use mathlib.Core.List.{List, [], _∷_, _++_}
 use native.Mathlib.Omega.{arith}
 use native.Mathlib.Nat.{add-zero}
-use lib.ListN.{length, drop, length-append}
+use native.Mathlib.Numerals.{add-one}
+use lib.ListN.{length, drop}
 use lib.Seq.{drop-drop}
+use borrow.Author.Tests.{lt-ltb, le-ltb}
+use borrow.Author.Count.{below-more}
 use Rattle.reading.specs.Record.{rowWidth}
+use Rattle.reading.specs.Walk.{roomOf}
 use Rattle.rows.specs.Row.{taken, rowOf}
 use Rattle.rows.specs.Lookup.{rowsOf, orElse, matching, lastFrom, lookupOf}
 use Rattle.rows.specs.declared.Row.{Row}
@@ -58,5 +62,63 @@ module _ (groupKind groupKey tag key : ℕ) where
   -- ONE ROW MORE is the last such row if it is one
   pub among-more : (n : ℕ) (s : List ℕ) → among (suc n) s ≡ cond (asked (rowOf s n)) (At n) (among n s)
   among-more n s =
+      let there : 0 + length (rowsOf n s) ≡ n = omega (arith, rows-count n s) in
       ap (λ (rs : List Row). found 0 rs) (rows-more n s) ∙ last-of-more 0 (rowsOf n s) (rowOf s n)
-      ∙ ap (λ (k : ℕ). cond (asked (rowOf s n)) (At k) (among n s)) (rows-count n s)
+      ∙ ap (λ (k : ℕ). cond (asked (rowOf s n)) (At k) (among n s)) there
+
+  -- A STEP from the end, by the row there and the test of it
+  pub among-step : (n : ℕ) (s : List ℕ) (row : Row) (test b : Bool) → 0 < n → row ≡ rowOf s (n - 1) → test ≡ asked row → test ≡ b
+      → among n s ≡ cond b (At (n - 1)) (among (n - 1) s)
+  among-step n s row test b h there tells is =
+      let one : n ≡ suc (n - 1) = omega arith in
+      ap (λ (k : ℕ). among k s) one ∙ among-more (n - 1) s
+      ∙ ap (λ (d : Bool). cond d (At (n - 1)) (among (n - 1) s)) (ap asked (sym there) ∙ sym tells ∙ is)
+
+  -- no rows are left
+  pub among-none : (n : ℕ) (s : List ℕ) → n ≡ 0 → among n s ≡ Nothing
+  unfolding lastFrom rowsOf
+  among-none n s e = ap (λ (k : ℕ). among k s) e
+
+  -- ---- a count that fits, and one that does not
+
+  pub fits : (s : List ℕ) (count : ℕ) → count ≤ roomOf (length s) → lookupOf groupKind groupKey tag key s count ≡ among count s
+  unfolding lookupOf
+  fits s count h = rw (le-ltb (roomOf (length s)) count h)
+
+  pub too-many : (s : List ℕ) (count : ℕ) → roomOf (length s) < count → lookupOf groupKind groupKey tag key s count ≡ Refused 5 0
+  unfolding lookupOf
+  too-many s count h = rw (lt-ltb (roomOf (length s)) count h)
+
+  -- ---- what an answer says
+
+  module _ (s : List ℕ) where
+    -- no row from one index up to another is asked for
+    abbrev pub NoneFrom : ℕ → ℕ → Type 0
+    NoneFrom from count = (k : ℕ) → k < count → from ≤ k → asked (rowOf s k) ≡ false
+
+    pub record LastOne (count n : ℕ) : Type 0 where
+      pub within : n < count
+      pub is : asked (rowOf s n) ≡ true
+      pub none-behind : NoneFrom (n + 1) count
+
+    abbrev pub Says : Found → ℕ → Type 0
+    Says (At n) count = LastOne count n
+    Says Nothing count = NoneFrom 0 count
+    Says (Refused why place) count = ⊥
+
+    none-more : (from n : ℕ) → NoneFrom from n → asked (rowOf s n) ≡ false → NoneFrom from (n + 1)
+    none-more from n before here = below-more (λ (k : ℕ). from ≤ k → asked (rowOf s k) ≡ false) n before (λ l. here)
+
+    says-more : (f : Found) (n : ℕ) (b : Bool) → asked (rowOf s n) ≡ b → Says f n → Says (cond b (At n) f) (n + 1)
+    says-more f n true e before = record { within = omega arith; is = e; none-behind = λ k below above. absurd (omega arith) }
+    says-more (At m) n false e before = record { within = omega arith; is = before .is; none-behind = none-more (m + 1) n (before .none-behind) e }
+    says-more Nothing n false e before = none-more 0 n before e
+    says-more (Refused why place) n false e before = before
+
+    -- WHAT IS FOUND is asked for, and nothing behind it is; where nothing is found, no row is
+    pub says : (count : ℕ) → Says (among count s) count
+    unfolding lastFrom rowsOf
+    says zero = λ k below above. absurd (omega arith)
+    says (suc n) =
+        let before : Says (among n s) n = says n in
+        rw (among-more n s, ← add-one n) (says-more (among n s) n (asked (rowOf s n)) refl before)

@@ -3,8 +3,6 @@ use borrow.Author.Tests.{eq-eqb, ne-eqb}
 use Rattle.rows.specs.Lookup.{matching}
 use Rattle.rows.proofs.matches.Statement.{statement}
 use Rattle.rows.proofs.matches.Tie as tie
-use Rattle.rows.proofs.matches.Reads as reads
-use Rattle.rows.proofs.matches.Lts as lts
 
 returns : tie.Need-returns
 unfolding matching

@@ -7,9 +7,6 @@ use Rattle.rows.proofs.Laid.{stores, put-stored, put-kept}
 use borrow.Author.Needs.{needs}
 use Rattle.rows.proofs.put_row.Statement.{statement}
 use Rattle.rows.proofs.put_row.Tie as tie
-use Rattle.rows.proofs.put_row.Reads as reads
-use Rattle.rows.proofs.put_row.Lts as lts
-use Rattle.rows.proofs.room.Reads as room-reads
 
 room-requires : tie.Need-room-requires
 room-requires c κs = search needs

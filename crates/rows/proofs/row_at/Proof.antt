@@ -8,10 +8,6 @@ use Rattle.rows.proofs.Laid.{has-row, has-no-row}
 use borrow.Author.Needs.{needs}
 use Rattle.rows.proofs.row_at.Statement.{statement}
 use Rattle.rows.proofs.row_at.Tie as tie
-use Rattle.rows.proofs.row_at.Reads as reads
-use Rattle.rows.proofs.row_at.Lts as lts
-use Rattle.rows.proofs.room.Reads as room-reads
-use Rattle.rows.proofs.take_row.Reads as take-row-reads
 
 room-requires : tie.Need-room-requires
 room-requires c κs = search needs

@@ -3,8 +3,6 @@ use Rattle.rows.proofs.Laid.{reads}
 use borrow.Author.Needs.{needs}
 use Rattle.rows.proofs.take_row.Statement.{statement}
 use Rattle.rows.proofs.take_row.Tie as tie
-use Rattle.rows.proofs.take_row.Reads as reads-of
-use Rattle.rows.proofs.take_row.Lts as lts
 
 mul-at : tie.Need-mul-at
 mul-at c = search needs
