@@ -3,7 +3,7 @@
 use Prim.Native.Nat.{ℕ, zero, suc, _+_, _-_, _*_, _<_, _≤_}
 use mathlib.Core.Path.{_≡_, refl, ap, sym, _∙_}
 use mathlib.Core.Bool.{Bool, true, false, cond}
-use mathlib.Core.List.{List, [], _∷_, _++_}
+use mathlib.Core.List.{List, [], _∷_, _++_, map, flatMap}
 use native.Mathlib.Omega.{arith}
 use native.Mathlib.Nat.{add-zero}
 use native.Mathlib.Numerals.{add-one}
@@ -11,10 +11,10 @@ use lib.ListN.{length, drop}
 use lib.Seq.{drop-drop}
 use borrow.Author.Tests.{lt-ltb, le-ltb}
 use borrow.Author.Count.{below-more}
-use Rattle.reading.specs.Record.{rowWidth}
+use Rattle.reading.specs.Record.{Record, numbers, rowWidth}
 use Rattle.reading.specs.Walk.{roomOf}
 use Rattle.rows.specs.Row.{taken, rowOf}
-use Rattle.rows.specs.Lookup.{rowsOf, orElse, matching, lastFrom, lookupOf}
+use Rattle.rows.specs.Lookup.{rowsOf, laterOr, matching, lastFrom, lookupOf}
 use Rattle.rows.specs.declared.Row.{Row}
 use Rattle.rows.specs.declared.Found.{Found}
 use Rattle.rows.specs.declared.Found.the-variants.{At, Nothing, Refused}
@@ -34,8 +34,14 @@ rows-more (suc n) s =
     let there : drop (n * rowWidth) rest ≡ drop (suc n * rowWidth) s = drop-drop (n * rowWidth) rowWidth s ∙ ap (λ (k : ℕ). drop k s) further in
     ap (λ (rs : List Row). taken s ∷ rs) (rows-more n rest) ∙ ap (λ (t : List ℕ). taken s ∷ rowsOf n rest ++ (taken t ∷ [])) there
 
--- what is found further on counts
-kept : (b : Bool) (n : ℕ) (f here : Found) → orElse (cond b (At n) f) here ≡ cond b (At n) (orElse f here)
+-- the rows of the records of a walk, as its lent numbers hold them
+pub rows-of-records : (rs : List Record) (rest : List ℕ) → rowsOf (length rs) (flatMap numbers rs ++ rest) ≡ map (λ (r : Record). taken (numbers r)) rs
+unfolding rowsOf numbers flatMap
+rows-of-records [] rest = refl
+rows-of-records (r ∷ rs) rest = ap (λ (rows : List Row). taken (numbers r) ∷ rows) (rows-of-records rs rest)
+
+-- what is found later on counts
+kept : (b : Bool) (n : ℕ) (f here : Found) → laterOr (cond b (At n) f) here ≡ cond b (At n) (laterOr f here)
 kept true n f here = refl
 kept false n f here = refl
 
@@ -52,8 +58,8 @@ module _ (groupKind groupKey tag key : ℕ) where
   last-of-more n (q ∷ rs) r =
       let here : Found = cond (asked q) (At n) Nothing in
       let further : suc n + length rs ≡ n + suc (length rs) = omega arith in
-      ap (λ (f : Found). orElse f here) (last-of-more (suc n) rs r) ∙ kept (asked r) (suc n + length rs) (found (suc n) rs) here
-      ∙ ap (λ (k : ℕ). cond (asked r) (At k) (orElse (found (suc n) rs) here)) further
+      ap (λ (f : Found). laterOr f here) (last-of-more (suc n) rs r) ∙ kept (asked r) (suc n + length rs) (found (suc n) rs) here
+      ∙ ap (λ (k : ℕ). cond (asked r) (At k) (laterOr (found (suc n) rs) here)) further
 
   -- among the first so many rows of some numbers
   abbrev pub among : ℕ → List ℕ → Found
@@ -115,10 +121,13 @@ module _ (groupKind groupKey tag key : ℕ) where
     says-more Nothing n false e before = none-more 0 n before e
     says-more (Refused why place) n false e before = before
 
-    -- WHAT IS FOUND is asked for, and nothing behind it is; where nothing is found, no row is
-    pub says : (count : ℕ) → Says (among count s) count
+    says : (count : ℕ) → Says (among count s) count
     unfolding lastFrom rowsOf
     says zero = λ k below above. absurd (omega arith)
     says (suc n) =
         let before : Says (among n s) n = says n in
         rw (among-more n s, ← add-one n) (says-more (among n s) n (asked (rowOf s n)) refl before)
+
+    -- WHAT IS FOUND is asked for, and nothing behind it is; where nothing is found, no row is; and a count that fits is not refused
+    pub lookup-says : (count : ℕ) → count ≤ roomOf (length s) → Says (lookupOf groupKind groupKey tag key s count) count
+    lookup-says count h = rw (fits s count h) (says count)

@@ -18,11 +18,11 @@ unfoldable pub rowsOf : ℕ → List ℕ → List Row
 rowsOf zero s = []
 rowsOf (suc n) s = taken s ∷ rowsOf n (drop rowWidth s)
 
--- what is found further on, or else what is found here
-abbrev pub orElse : Found → Found → Found
-orElse (At n) here = At n
-orElse Nothing here = here
-orElse (Refused why place) here = Refused why place
+-- what is found later on, or else what is found here
+abbrev pub laterOr : Found → Found → Found
+laterOr (At n) here = At n
+laterOr Nothing here = here
+laterOr (Refused why place) here = Refused why place
 
 -- ---- of a group (by its kind and its key), a tag and a key
 
@@ -34,7 +34,7 @@ module _ (groupKind groupKey tag key : ℕ) where
   -- THE LAST ONE of rows, the first of which has this index
   unfoldable pub lastFrom : ℕ → List Row → Found
   lastFrom n [] = Nothing
-  lastFrom n (r ∷ rs) = orElse (lastFrom (suc n) rs) (cond (matching r) (At n) Nothing)
+  lastFrom n (r ∷ rs) = laterOr (lastFrom (suc n) rs) (cond (matching r) (At n) Nothing)
 
   -- THE LOOKUP in the first so many rows of lent numbers, which must have room for them: else 5 at 0 (document 01, Refusal numbers, 5:
   -- "a row, written or claimed, does not fit the room")

@@ -29,6 +29,14 @@ use Rattle.last_item.proofs.last_item.Kinds as last-item-kinds
 use Rattle.last_item.proofs.last_item.Reads as last-item-reads
 use Rattle.last_item.proofs.get_last_klv.Kinds as get-last-klv-kinds
 use Rattle.last_item.proofs.get_last_klv.Reads as get-last-klv-reads
+use Rattle.rows.proofs.room.Kinds as room-kinds
+use Rattle.rows.proofs.room.Reads as room-reads
+use Rattle.rows.proofs.put_row.Kinds as put-row-kinds
+use Rattle.rows.proofs.put_row.Reads as put-row-reads
+use Rattle.rows.proofs.row_at.Kinds as row-at-kinds
+use Rattle.rows.proofs.row_at.Reads as row-at-reads
+use Rattle.rows.proofs.lookup.Kinds as lookup-kinds
+use Rattle.rows.proofs.lookup.Reads as lookup-reads
 use Rattle.fixed.proofs.q15_16.Kinds as q15-16-kinds
 use Rattle.fixed.proofs.q15_16.Reads as q15-16-reads
 use Rattle.fixed.proofs.q31_32.Kinds as q31-32-kinds
@@ -145,3 +153,14 @@ shape-at κs a x y s t p q = p ∙ sym q
 
 pub columns-at : OneResult 1 columns-at-kinds.ps columns-at-kinds.r columns-at-reads.Learnt
 columns-at κs a x y s t p q = p ∙ sym q
+pub room : OneResult 0 room-kinds.ps room-kinds.r room-reads.Learnt
+room κs a x y s t p q = p ∙ sym q
+
+pub put-row : OneAnswer 1 put-row-kinds.ps put-row-kinds.r put-row-reads.Learnt (λ κs s. now (s .0))
+put-row κs a x y s t p q = (p .is ∙ sym (q .is), p .numbers ∙ sym (q .numbers))
+
+pub row-at : OneResult 1 row-at-kinds.ps row-at-kinds.r row-at-reads.Learnt
+row-at κs a x y s t p q = p ∙ sym q
+
+pub lookup : OneResult 1 lookup-kinds.ps lookup-kinds.r lookup-reads.Learnt
+lookup κs a x y s t p q = p ∙ sym q
