@@ -85,15 +85,15 @@ module _ (groupKind groupKey tag key : ℕ) where
   unfolding lastFrom rowsOf
   among-none n s e = ap (λ (k : ℕ). among k s) e
 
-  -- ---- a count that fits, and one that does not
-
-  pub fits : (s : List ℕ) (count : ℕ) → count ≤ roomOf (length s) → lookupOf groupKind groupKey tag key s count ≡ among count s
-  unfolding lookupOf
-  fits s count h = rw (le-ltb (roomOf (length s)) count h)
+  -- ---- a count that does not fit, and one that does
 
   pub too-many : (s : List ℕ) (count : ℕ) → roomOf (length s) < count → lookupOf groupKind groupKey tag key s count ≡ Refused 5 0
   unfolding lookupOf
-  too-many s count h = rw (lt-ltb (roomOf (length s)) count h)
+  too-many s count h = ap (λ (b : Bool). cond b (Refused 5 0) (among count s)) (lt-ltb (roomOf (length s)) count h)
+
+  pub fits : (s : List ℕ) (count : ℕ) → count ≤ roomOf (length s) → lookupOf groupKind groupKey tag key s count ≡ among count s
+  unfolding lookupOf
+  fits s count h = ap (λ (b : Bool). cond b (Refused 5 0) (among count s)) (le-ltb (roomOf (length s)) count h)
 
   -- ---- what an answer says
 
