@@ -153,6 +153,7 @@ shape-at κs a x y s t p q = p ∙ sym q
 
 pub columns-at : OneResult 1 columns-at-kinds.ps columns-at-kinds.r columns-at-reads.Learnt
 columns-at κs a x y s t p q = p ∙ sym q
+
 pub room : OneResult 0 room-kinds.ps room-kinds.r room-reads.Learnt
 room κs a x y s t p q = p ∙ sym q
 
