@@ -1,4 +1,5 @@
--- The letters of the type byte, and how many bytes each reads: GPMF description, Types; document 01, Values ("Widths").
+-- The letters of the type byte that read numbers, and how many bytes each reads: GPMF description, Types; document 01, Values ("Widths"; "other
+-- characters read nothing": texts, identifiers and dates are read as wholes, and inside a structure not at all).
 -- Assumes nothing: these are definitions.
 use Prim.Native.Nat.{ℕ}
 use Prim.Native.String.{String}

@@ -65,7 +65,7 @@ headerBytes h = bytesOf 4 (h .key) ++ (h .«data_type» ∷ h .size ∷ bytesOf 
 abbrev pub laidOut : KLV → List ℕ → List ℕ → List ℕ
 laidOut h payload padding = headerBytes h ++ (payload ++ padding)
 
--- the padding of n bytes with s behind it: whole, or missing in part at the end of the level
+-- the padding of a payload of n bytes, with s behind it: whole, or missing in part at the end of the level
 pub data Padded (n : ℕ) (padding : List ℕ) : List ℕ → Type 0 where
   whole : {s : List ℕ} → n + length padding ≡ aligned n → Padded n padding s
   missing : n + length padding ≤ aligned n → Padded n padding []

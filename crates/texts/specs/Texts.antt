@@ -1,4 +1,4 @@
--- The texts of a value, as the Rust's `chunks(size)`: document 01, Values ("one UTF-8 text per size bytes, up to its first zero").
+-- The texts of a value, as the Rust's `chunks(size)` for a size above 0: document 01, Values ("one UTF-8 text per size bytes, up to its first zero").
 -- Assumes nothing: these are definitions.
 use Prim.Native.Nat.{ℕ, zero, suc, min, _<_, _≤_}
 use mathlib.Core.Path.{_≡_}

@@ -1,3 +1,4 @@
+mod Cases
 mod Cells
 mod EvenRows
 mod Letters

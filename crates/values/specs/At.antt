@@ -67,7 +67,7 @@ pub data Found : Type 0 where
   found : KLV → List ℕ → List ℕ → Found
   stopped : ℕ → ℕ → Found
 
--- 2: the payload runs past the payload's end
+-- 2: the item's payload runs past the end of what was lent
 abbrev pub overIf : Named → ℕ → Found
 overIf (named type) at = stopped 2 at
 overIf bad at = stopped 12 at
@@ -78,14 +78,14 @@ wholeIf bad h payload at = stopped 12 at
 
 -- 12: no 8 header bytes or length 0 at the place asked, or no such TYPE at the place named
 abbrev pub foundBy : First → List ℕ → ℕ → ℕ → Found
-foundBy few s at type = stopped 12 at
-foundBy past s at type = overIf (typeFor (headerOf (drop at s) .«data_type») s type) at
-foundBy (item h [] rest) s at type = stopped 12 at
-foundBy (item h (b ∷ payload) rest) s at type = wholeIf (typeFor (h .«data_type») s type) h (b ∷ payload) at
+foundBy few s at typePlace = stopped 12 at
+foundBy past s at typePlace = overIf (typeFor (headerOf (drop at s) .«data_type») s typePlace) at
+foundBy (item h [] rest) s at typePlace = stopped 12 at
+foundBy (item h (b ∷ payload) rest) s at typePlace = wholeIf (typeFor (h .«data_type») s typePlace) h (b ∷ payload) at
 
 -- 1: the payload is over the limit, at place 0
 unfoldable pub foundAt : List ℕ → ℕ → ℕ → Found
-foundAt s at type = cond (ltb 1048576 (length s)) (stopped 1 0) (foundBy (firstItem (drop at s)) s at type)
+foundAt s at typePlace = cond (ltb 1048576 (length s)) (stopped 1 0) (foundBy (firstItem (drop at s)) s at typePlace)
 
 -- ---- THE ANSWERS
 

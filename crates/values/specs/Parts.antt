@@ -1,4 +1,4 @@
--- Where an item's payload and its TYPE text stand, told as places in the payload that was lent. Assumes nothing: these are definitions.
+-- Where an item's payload and its TYPE text stand, told as places in what was lent. Assumes nothing: these are definitions.
 use Prim.Native.Nat.{ℕ, _-_, _≤_}
 use mathlib.Core.Path.{_≡_}
 use mathlib.Core.List.{List}

@@ -116,7 +116,7 @@ unfoldable pub widthsOf : List ℕ → ℕ
 widthsOf [] = 0
 widthsOf (letter ∷ letters) = widthOf letter + widthsOf letters
 
--- each row takes the sum of its letters' widths, size not looked at
+-- of the letters that read something: each row takes the sum of their widths, size not looked at
 abbrev pub structured : List ℕ → KLV → List ℕ → Outcome
 structured letters h payload =
     wanting (h .repeat * widthsOf letters) payload
@@ -155,6 +155,6 @@ valueBy plan.Texts h payload type = texts h payload
 valueBy plan.Date h payload type = dated (dateOf payload)
 valueBy plan.Structures h payload type = structures type h payload
 
--- of a header, a payload and the TYPE text in force, which is empty for none
+-- of a header, a payload and the TYPE text in force, without its trailing zeros; empty for none
 abbrev pub valueOf : KLV → List ℕ → List ℕ → Outcome
 valueOf h payload type = valueBy (planOf h payload) h payload type

@@ -13,6 +13,12 @@ ghost use mathlib.Core.Path.{_≡_};
 ghost use Rattle.values.specs.Value.{valueOf};
 ghost use Rattle.values.specs.At.{elementIn, shapeIn, columnsIn, columnsByShape, foundAt, elementOfFound, shapeOfFound, columnsOfFound};
 
+// The place of a TYPE where none is in force.
+pub const NO_TYPE: usize = 4294967295;
+
+// A payload is at most so long.
+pub const LIMIT: usize = 1048576;
+
 // What a value is called.
 pub enum Kind {
     Single,
@@ -29,7 +35,7 @@ pub enum Kind {
     Unknown,
 }
 
-// Rows, and columns in the first of them: each row has as many, but for texts.
+// Rows, and columns in the first of them: each row has as many, but for those of several texts (`Texts`).
 pub struct Shape {
     pub kind: Kind,
     pub rows: usize,

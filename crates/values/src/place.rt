@@ -1,4 +1,6 @@
 // The item at a place, with its payload and the TYPE text that it asks for.
+use crate::LIMIT;
+use crate::NO_TYPE;
 use klv::Cursor;
 use klv::Header;
 use klv::KLV;
@@ -8,12 +10,6 @@ ghost use Rattle.klv.specs.Item.{firstItem};
 ghost use Rattle.klv.specs.Header.{headerAt};
 ghost use Rattle.values.specs.At.{typeOf, typeAt, typeFor, foundBy, foundAt, overIf};
 ghost use Rattle.values.specs.Parts.{TypeIs, ItemIs};
-
-// No TYPE is in force.
-pub const NO_TYPE: usize = 4294967295;
-
-// A payload is at most so long.
-pub const LIMIT: usize = 1048576;
 
 // Where a TYPE text stands.
 pub enum TypeText {
