@@ -1,0 +1,3 @@
+mod Decide
+mod Written
+mod Passes
