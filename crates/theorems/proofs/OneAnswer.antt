@@ -37,6 +37,8 @@ use Rattle.rows.proofs.row_at.Kinds as row-at-kinds
 use Rattle.rows.proofs.row_at.Reads as row-at-reads
 use Rattle.rows.proofs.lookup.Kinds as lookup-kinds
 use Rattle.rows.proofs.lookup.Reads as lookup-reads
+use Rattle.metadata.proofs.parse_metadata.Kinds as parse-metadata-kinds
+use Rattle.metadata.proofs.parse_metadata.Reads as parse-metadata-reads
 use Rattle.fixed.proofs.q15_16.Kinds as q15-16-kinds
 use Rattle.fixed.proofs.q15_16.Reads as q15-16-reads
 use Rattle.fixed.proofs.q31_32.Kinds as q31-32-kinds
@@ -165,3 +167,6 @@ row-at κs a x y s t p q = p ∙ sym q
 
 pub lookup : OneResult 1 lookup-kinds.ps lookup-kinds.r lookup-reads.Learnt
 lookup κs a x y s t p q = p ∙ sym q
+
+pub parse-metadata : OneAnswer 2 parse-metadata-kinds.ps parse-metadata-kinds.r parse-metadata-reads.Learnt (λ κs s. now (s .1 .1 .0))
+parse-metadata κs a x y s t p q = (p .is ∙ sym (q .is), p .rows ∙ sym (q .rows))
