@@ -9,6 +9,26 @@ use denote.Triple.Clauses.{AtExit}
 use borrow.Fn.Kinds.{PK, RK, Out, Dens, resT, endedOf}
 use Rattle.foundation.proofs.big_endian.Kinds as big-endian-kinds
 use Rattle.foundation.proofs.big_endian.Reads as big-endian-reads
+use Rattle.text.proofs.put.Kinds as put-kinds
+use Rattle.text.proofs.put.Reads as put-reads
+use Rattle.text.proofs.put_bytes.Kinds as put-bytes-kinds
+use Rattle.text.proofs.put_bytes.Reads as put-bytes-reads
+use Rattle.text.proofs.put_decimal.Kinds as put-decimal-kinds
+use Rattle.text.proofs.put_decimal.Reads as put-decimal-reads
+use Rattle.text.proofs.put_hex.Kinds as put-hex-kinds
+use Rattle.text.proofs.put_hex.Reads as put-hex-reads
+use Rattle.text.proofs.put_signed.Kinds as put-signed-kinds
+use Rattle.text.proofs.put_signed.Reads as put-signed-reads
+use Rattle.line.proofs.pieces.Kinds as pieces-kinds
+use Rattle.line.proofs.pieces.Reads as pieces-reads
+use Rattle.line.proofs.piece.Kinds as piece-kinds
+use Rattle.line.proofs.piece.Reads as piece-reads
+use Rattle.line.proofs.decimal_number.Kinds as decimal-number-kinds
+use Rattle.line.proofs.decimal_number.Reads as decimal-number-reads
+use Rattle.line.proofs.hex_number.Kinds as hex-number-kinds
+use Rattle.line.proofs.hex_number.Reads as hex-number-reads
+use Rattle.line.proofs.unhex.Kinds as unhex-kinds
+use Rattle.line.proofs.unhex.Reads as unhex-reads
 use Rattle.keys.proofs.tag_id.Kinds as tag-id-kinds
 use Rattle.keys.proofs.tag_id.Reads as tag-id-reads
 use Rattle.keys.proofs.group_from_key.Kinds as group-from-key-kinds
@@ -170,3 +190,34 @@ lookup κs a x y s t p q = p ∙ sym q
 
 pub parse-metadata : OneAnswer 2 parse-metadata-kinds.ps parse-metadata-kinds.r parse-metadata-reads.Learnt (λ κs s. now (s .1 .1 .0))
 parse-metadata κs a x y s t p q = (p .is ∙ sym (q .is), p .rows ∙ sym (q .rows))
+pub put : OneAnswer 1 put-kinds.ps put-kinds.r put-reads.Learnt (λ κs s. now (s .0))
+put κs a x y s t p q = (p .is ∙ sym (q .is), p .leaves ∙ sym (q .leaves))
+
+pub put-bytes : OneAnswer 2 put-bytes-kinds.ps put-bytes-kinds.r put-bytes-reads.Learnt (λ κs s. now (s .0))
+put-bytes κs a x y s t p q = (p .is ∙ sym (q .is), p .leaves ∙ sym (q .leaves))
+
+pub put-decimal : OneAnswer 1 put-decimal-kinds.ps put-decimal-kinds.r put-decimal-reads.Learnt (λ κs s. now (s .0))
+put-decimal κs a x y s t p q = (p .is ∙ sym (q .is), p .leaves ∙ sym (q .leaves))
+
+pub put-hex : OneAnswer 1 put-hex-kinds.ps put-hex-kinds.r put-hex-reads.Learnt (λ κs s. now (s .0))
+put-hex κs a x y s t p q = (p .is ∙ sym (q .is), p .leaves ∙ sym (q .leaves))
+
+pub put-signed : OneAnswer 1 put-signed-kinds.ps put-signed-kinds.r put-signed-reads.Learnt (λ κs s. now (s .0))
+put-signed κs a x y s t p q = (p .is ∙ sym (q .is), p .leaves ∙ sym (q .leaves))
+
+pub pieces : OneResult 1 pieces-kinds.ps pieces-kinds.r pieces-reads.Learnt
+pieces κs a x y s t p q = p ∙ sym q
+
+pub decimal-number : OneResult 1 decimal-number-kinds.ps decimal-number-kinds.r decimal-number-reads.Learnt
+decimal-number κs a x y s t p q = p ∙ sym q
+
+pub hex-number : OneResult 1 hex-number-kinds.ps hex-number-kinds.r hex-number-reads.Learnt
+hex-number κs a x y s t p q = p ∙ sym q
+
+pub unhex : OneAnswer 2 unhex-kinds.ps unhex-kinds.r unhex-reads.Learnt (λ κs s. now (s .1 .0))
+unhex κs a x y s t p q = (p .is ∙ sym (q .is), p .leaves ∙ sym (q .leaves))
+
+-- what is settled of a part that is handed back is its bytes
+pub piece : (κs : Lfts 1) (a : Dens κs piece-kinds.ps) (x y : resT piece-kinds.r κs .Denot) (s t : AtExit (endedOf 1 piece-kinds.ps piece-kinds.r) κs)
+    → piece-reads.Learnt κs a x s → piece-reads.Learnt κs a y t → now x ≡ now y
+piece κs a x y s t p q = p ∙ sym q

@@ -1,0 +1,4 @@
+pub mod Decoding
+pub mod Finding
+pub mod Reading
+pub mod Splitting

@@ -1,0 +1,4 @@
+pub mod Decimal
+pub mod Laying
+pub mod Negative
+pub mod Spelling

@@ -1,0 +1,287 @@
+//! The Rust oracle: the published GPMF code behind a line protocol. See README.md.
+//! One function a question: its words in, its answer out, `None` where they are no such question.
+#![allow(dead_code, unused_imports, unused_variables, unused_mut)]
+
+pub mod gopro;
+pub mod stand_ins;
+pub mod tags_impl;
+pub mod util;
+
+pub use stand_ins::*;
+
+use gopro::{GoPro, klv::{KLV, probe}};
+use std::io::{BufRead, Cursor, Write};
+use tags_impl::*;
+
+fn answer(line: &str) -> Option<String> {
+    let words: Vec<&str> = line.split(' ').collect();
+    let asked = &words[1..];
+    match words[0] {
+        "header" => header(asked),
+        "tag" => tag(asked),
+        "group" => group(asked),
+        "walk" => walk(asked),
+        "last" => last(asked),
+        "expand" => expand(asked),
+        "matrix" => matrix(asked),
+        "back" => back(asked),
+        "quat" => quat(asked),
+        "avg" => avg(asked),
+        "cut" => cut(asked),
+        "cuts" => cuts(asked),
+        "sett" => sett(asked),
+        "udta" => udta(asked),
+        "speed" => speed(asked),
+        _ => None,
+    }
+}
+
+fn main() {
+    std::panic::set_hook(Box::new(|_| ()));
+    let worker = std::thread::Builder::new().stack_size(1 << 28).spawn(|| {
+        let mut out = std::io::BufWriter::new(std::io::stdout().lock());
+        for line in std::io::stdin().lock().split(b'\n') {
+            let line = String::from_utf8_lossy(&line.expect("a line")).into_owned();
+            if line.is_empty() { out.flush().unwrap(); continue; } // an empty line asks for what is ready
+            let answer = match std::panic::catch_unwind(|| answer(&line)) {
+                Ok(Some(answer)) => answer,
+                Ok(None) => "unknown".into(),
+                Err(_) => "panic".into(),
+            };
+            writeln!(out, "{answer}").unwrap();
+        }
+        out.flush().unwrap();
+    });
+    worker.unwrap().join().unwrap();
+}
+
+// ---------- words ----------
+
+/// Bytes in small hex, `-` for none.
+fn bytes(word: &str) -> Option<Vec<u8>> {
+    if word == "-" { return Some(Vec::new()); }
+    if word.is_empty() || word.len() % 2 != 0 { return None; }
+    let digit = |c: u8| match c { b'0'..=b'9' => Some(c - b'0'), b'a'..=b'f' => Some(c - b'a' + 10), _ => None };
+    word.as_bytes().chunks(2).map(|c| Some(digit(c[0])? * 16 + digit(c[1])?)).collect()
+}
+/// A decimal number of digits alone, below 2^64.
+fn number(word: &str) -> Option<u64> {
+    if !word.bytes().all(|c| c.is_ascii_digit()) { return None; }
+    word.parse().ok()
+}
+/// A key: eight hex digits.
+fn key(word: &str) -> Option<[u8; 4]> { bytes(word)?.try_into().ok() }
+/// A big-endian number of 64 bits: sixteen hex digits.
+fn bits(word: &str) -> Option<u64> { Some(u64::from_be_bytes(bytes(word)?.try_into().ok()?)) }
+
+fn hex(b: &[u8]) -> String {
+    if b.is_empty() { return "-".into(); }
+    b.iter().map(|x| format!("{x:02x}")).collect()
+}
+fn latin1(b: &[u8]) -> String { b.iter().map(|&c| c as char).collect() }
+
+// ---------- headers and keys ----------
+
+/// header PLACE HEX
+fn header(asked: &[&str]) -> Option<String> {
+    let [place, payload] = asked else { return None };
+    let payload = bytes(payload)?;
+    let mut cursor = Cursor::new(&payload[..]);
+    cursor.set_position(number(place)?);
+    Some(match KLV::parse_header(&mut cursor) {
+        Ok(k) => format!("ok {} {} {} {} {} {}", hex(&k.key), k.data_type, k.size, k.repeat, k.data_len(), k.aligned_data_len()),
+        Err(_) => "err".into(),
+    })
+}
+
+/// tag KEY
+fn tag(asked: &[&str]) -> Option<String> {
+    let [name] = asked else { return None };
+    let klv = KLV { key: key(name)?, ..Default::default() };
+    Some(probe_tag_number(&klv.tag_id()).to_string())
+}
+
+/// The keys that the Rust's `group_from_key` names, in its order, with what it makes of each.
+fn named_groups() -> Vec<([u8; 4], GroupId)> {
+    let custom = |name: &'static str| GroupId::Custom(name.into());
+    vec![
+        (*b"GYRO", GroupId::Gyroscope), (*b"ACCL", GroupId::Accelerometer), (*b"GRAV", GroupId::GravityVector),
+        (*b"MAGN", GroupId::Magnetometer), (*b"CORI", GroupId::CameraOrientation), (*b"IORI", GroupId::ImageOrientation),
+        (*b"SHUT", GroupId::Exposure), (*b"GPS5", GroupId::GPS), (*b"FASC", custom("FovAdaptationScore")),
+        (*b"MWET", custom("MicrophoneWet")), (*b"AALP", custom("AGCAudioLevel")), (*b"WNDM", custom("WindProcessing")),
+        (*b"UNIF", custom("ImageUniformity")), (*b"WRGB", custom("WhiteBalanceRGBGains")),
+        (*b"WBAL", custom("WhiteBalanceTemperature")), (*b"ISOE", custom("SensorISO")),
+    ]
+}
+/// A group's number from 1, 0 for one that is not named, and its key: the name that the Rust kept, a byte for each character.
+fn group_number(group: &GroupId) -> (usize, Vec<u8>) {
+    let named = named_groups();
+    if let Some(at) = named.iter().position(|(_, g)| g == group) { return (at + 1, named[at].0.to_vec()); }
+    match group {
+        GroupId::Custom(kept) => (0, kept.chars().map(|c| u8::try_from(c as u32).expect("Latin-1")).collect()),
+        other => panic!("no key in {other:?}"),
+    }
+}
+/// group KEY
+fn group(asked: &[&str]) -> Option<String> {
+    let [name] = asked else { return None };
+    let (number, kept) = group_number(&KLV::group_from_key(&key(name)?));
+    Some(format!("{number} {}", hex(&kept)))
+}
+
+// ---------- the walk ----------
+
+/// An entry for each group and tag, in the order of group key, tag number and key.
+fn show_map(map: &GroupedTagMap) -> String {
+    let mut entries = Vec::new();
+    for (g, tags) in map {
+        let group = if *g == GroupId::Default { "-".into() } else { hex(&group_number(g).1) };
+        for (id, d) in tags {
+            let Some(native) = d.native_id else { continue }; // put in by process_map or process_samples
+            assert!(&d.group == g && &d.id == id);
+            let (variant, raw, value) = probe_value(&d.value);
+            let tag = probe_tag_number(id);
+            entries.push(((group.clone(), tag, native), format!(" {group},{tag},{native:08x},{variant},{},{value}", hex(raw))));
+        }
+    }
+    entries.sort();
+    entries.into_iter().map(|(_, shown)| shown).collect()
+}
+fn parsed(payload: &[u8], forced: bool) -> std::io::Result<GroupedTagMap> {
+    GoPro::parse_metadata(payload, GroupId::Default, forced, &InputOptions::default())
+}
+
+/// walk FORCED HEX
+fn walk(asked: &[&str]) -> Option<String> {
+    let (forced, payload) = match asked { ["0", p] => (false, bytes(p)?), ["1", p] => (true, bytes(p)?), _ => return None };
+    let before = byteorder::u16_reads();
+    let map = parsed(&payload, forced);
+    let headers = byteorder::u16_reads() - before;
+    Some(match map {
+        Ok(map) => format!("ok h={headers}{}", show_map(&map)),
+        Err(_) => format!("err h={headers}"),
+    })
+}
+
+/// last HEX
+fn last(asked: &[&str]) -> Option<String> {
+    let [payload] = asked else { return None };
+    let payload = bytes(payload)?;
+    Some(match GoPro::get_last_klv(&payload) {
+        Ok(s) => format!("ok {} {}", s.as_ptr() as usize - payload.as_ptr() as usize, s.len()),
+        Err(_) => "err".into(),
+    })
+}
+
+// ---------- values, axes, times ----------
+
+/// expand HEX (a Latin-1 text)
+fn expand(asked: &[&str]) -> Option<String> {
+    let [text] = asked else { return None };
+    Some(format!("ok {}", probe::expand(&latin1(&bytes(text)?)).show()))
+}
+
+/// matrix ORIN ORIO
+fn matrix(asked: &[&str]) -> Option<String> {
+    let [orin, orio] = asked else { return None };
+    Some(match KLV::orientations_to_matrix(&latin1(&bytes(orin)?), &latin1(&bytes(orio)?)) {
+        Some(m) => format!("ok {}", m.show()),
+        None => "none".into(),
+    })
+}
+
+/// back HEX, four bytes for each f32
+fn back(asked: &[&str]) -> Option<String> {
+    let [numbers] = asked else { return None };
+    let m: Option<Vec<f32>> = bytes(numbers)?.chunks(4).map(|c| Some(f32::from_be_bytes(c.try_into().ok()?))).collect();
+    Some(format!("ok {}", probe::back(&m?)))
+}
+
+/// quat HEX
+fn quat(asked: &[&str]) -> Option<String> {
+    let [payload] = asked else { return None };
+    Some(match parsed(&bytes(payload)?, false) {
+        Ok(map) => format!("ok{}", probe::quats(map)),
+        Err(_) => "err".into(),
+    })
+}
+
+/// avg GROUPKEY TIMESTAMP_MS:DURATION_MS:HEX ... (the two as f64 bits in hex)
+fn avg(asked: &[&str]) -> Option<String> {
+    let group = KLV::group_from_key(&key(asked.first()?)?);
+    let mut samples = Vec::new();
+    for packet in &asked[1..] {
+        let f: Vec<&str> = packet.split(':').collect();
+        let [timestamp, duration, payload] = f[..] else { return None };
+        samples.push(SampleInfo {
+            timestamp_ms: f64::from_bits(bits(timestamp)?),
+            duration_ms: f64::from_bits(bits(duration)?),
+            tag_map: parsed(&bytes(payload)?, false).ok(),
+            ..Default::default()
+        });
+    }
+    let stamp = |s: &SampleInfo| s.tag_map.as_ref().and_then(|m| m.get(&group)).and_then(probe::stamp).map_or("-".into(), |v| v.to_string());
+    let stamps: Vec<String> = samples.iter().map(stamp).collect();
+    let missing: Vec<String> = samples.windows(2).map(|p| util::time_missing_between(&p[0], &p[1]).to_string()).collect();
+    let average = probe::avg(&samples, &group).map_or("none".into(), |v| v.show());
+    Some(format!("ok {average} stamps={} missing={}", stamps.join(";"), missing.join(";")))
+}
+
+// ---------- files ----------
+
+/// cut HEX: the accepted packets' maps, by `parse`
+fn cut(asked: &[&str]) -> Option<String> {
+    let [file] = asked else { return None };
+    Some(match probe::cut_file(&bytes(file)?) {
+        Ok(maps) => format!("ok {}{}", maps.len(), maps.iter().map(|m| format!(" |{}", show_map(m))).collect::<String>()),
+        Err(_) => "err".into(),
+    })
+}
+
+/// cuts HEX: start and end of each packet
+fn cuts(asked: &[&str]) -> Option<String> {
+    let [file] = asked else { return None };
+    Some(format!("ok{}", probe::cuts(&bytes(file)?).iter().map(|(a, b)| format!(" {a}-{b}")).collect::<String>()))
+}
+
+/// sett HEX
+fn sett(asked: &[&str]) -> Option<String> {
+    let [file] = asked else { return None };
+    Some(match probe::sett(&bytes(file)?) {
+        Ok((e, v)) => format!("ok {} {}", e.unwrap_or("-".into()), v.unwrap_or("-".into())),
+        Err(e) => format!("err {:?}", e.kind()),
+    })
+}
+
+/// udta HEX
+fn udta(asked: &[&str]) -> Option<String> {
+    let [file] = asked else { return None };
+    Some(match probe::udta_box(&bytes(file)?) {
+        Some((at, len)) => format!("ok {at} {len}"),
+        None => "none".into(),
+    })
+}
+
+/// speed PATH TURNS: seconds of one turn over a raw file, by cutting alone and by the walk of each packet
+fn speed(asked: &[&str]) -> Option<String> {
+    let [path, turns] = asked else { return None };
+    let file = std::fs::read(path).ok()?;
+    let turns = number(turns).filter(|&n| n > 0)?;
+    let began = std::time::Instant::now();
+    let mut packets = 0;
+    for _ in 0..turns { packets = std::hint::black_box(probe::cuts(std::hint::black_box(&file))).len(); }
+    let cut = began.elapsed().as_secs_f64() / turns as f64;
+    let cuts = probe::cuts(&file);
+    let began = std::time::Instant::now();
+    let mut tags = 0;
+    for _ in 0..turns {
+        tags = 0;
+        for (a, b) in &cuts {
+            if let Ok(map) = parsed(std::hint::black_box(&file[*a..*b]), false) {
+                tags += map.values().map(|m| m.len()).sum::<usize>();
+            }
+        }
+    }
+    let walk = began.elapsed().as_secs_f64() / turns as f64;
+    Some(format!("ok bytes={} packets={packets} tags={tags} cut={cut:.6} walk={walk:.6}", file.len()))
+}
