@@ -190,6 +190,7 @@ lookup κs a x y s t p q = p ∙ sym q
 
 pub parse-metadata : OneAnswer 2 parse-metadata-kinds.ps parse-metadata-kinds.r parse-metadata-reads.Learnt (λ κs s. now (s .1 .1 .0))
 parse-metadata κs a x y s t p q = (p .is ∙ sym (q .is), p .rows ∙ sym (q .rows))
+
 pub put : OneAnswer 1 put-kinds.ps put-kinds.r put-reads.Learnt (λ κs s. now (s .0))
 put κs a x y s t p q = (p .is ∙ sym (q .is), p .leaves ∙ sym (q .leaves))
 
