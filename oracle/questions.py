@@ -74,14 +74,15 @@ def far_places(_):
 
 
 def random_headers(draw, times):
-    """Items of random bytes at random places, most of them with small sizes and repeats."""
-    for _ in range(700 * times):
+    """Items of random bytes at random places: half of them whole, the others anything; some asked at a place nearby."""
+    for _ in range(800 * times):
         place = draw.randrange(12)
-        size = draw.choice((draw.randrange(6), draw.randrange(256)))
-        repeat = draw.choice((draw.randrange(6), draw.randrange(6), draw.randrange(65536)))
-        there = max(0, draw.choice((draw.randrange(24), size * repeat + draw.randrange(-2, 4)))) % 64
+        small = draw.random() < 0.7
+        size, repeat = (draw.randrange(7), draw.randrange(7)) if small else (draw.randrange(256), draw.randrange(65536))
+        there = size * repeat + draw.randrange(4) if small and draw.random() < 0.8 else draw.randrange(24)
         item = header(draw.randrange(256), size, repeat, draw.randbytes(4)) + draw.randbytes(there)
-        yield ask_header(place + draw.choice((0, 0, 0, draw.randrange(-3, 4))) % 40, draw.randbytes(place) + item)
+        asked = place if draw.random() < 0.8 else draw.randrange(24)
+        yield ask_header(asked, draw.randbytes(place) + item)
 
 
 def changed(key):
@@ -109,13 +110,13 @@ def keys(draw, times):
 
 
 def no_questions(_):
-    """Lines that are no question."""
+    """Lines that are no question; the empty one has no answer."""
     yield from ("header", "header ", "header 0", "header 0 ", "header 0 0", "header 0 0g", "header 0 0G", "header 0 4A", "header 0 00 ")
     yield from ("header  0 00", "header 0  00", " header 0 00", "header 0 00 00", "header -1 00", "header +1 00", "header a 00", "header 0x0 00")
     yield from ("header 18446744073709551616 -", "header 99999999999999999999999 -", "header 00000000000000000000000000 -", "headers 0 00", "heade 0 00")
     yield from ("tag", "tag ", "tag -", "tag 4759524", "tag 4759524f4", "tag 4759524f4d", "tag 4759524F", "tag 4759524f 00", "tag +759524f", "tags 4759524f")
     yield from ("group", "group ", "group -", "group 4759524", "group 4759524f4", "group 4759524g", "group 4759524f 4759524f", "GROUP 4759524f")
-    yield from ("bogus", " ", "-", "0", "unknown", "ok", "\t", "header\t0\t00", "\xe9", "tag GYRO")
+    yield from ("bogus", " ", "-", "0", "unknown", "ok", "\t", "header\t0\t00", "\xe9", "tag GYRO", "")
 
 
 KINDS = {
@@ -137,7 +138,8 @@ def main():
         ask.error(f"no kind {unknown}")
     said = [f"seed {asked.seed}"]
     for kind in asked.kinds or KINDS:
-        questions = KINDS[kind](random.Random(f"{asked.seed} {kind}"), asked.times)
+        made = KINDS[kind](random.Random(f"{asked.seed} {kind}"), asked.times)
+        questions = list(dict.fromkeys(made))  # each once
         sys.stdout.buffer.write("".join(q + "\n" for q in questions).encode("utf-8"))
         said.append(f"{kind} {len(questions)}")
     print(", ".join(said), file=sys.stderr)
