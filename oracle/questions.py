@@ -5,6 +5,7 @@ All inputs are made up. Each kind draws from a generator of its own, started by 
 leaves the questions of the others as they are. --times repeats the random part: 1 for the stored list, more for a long run.
 The seed and the number of questions of each kind go to standard error."""
 import argparse
+import itertools
 import random
 import sys
 
@@ -109,6 +110,276 @@ def keys(draw, times):
         yield bytes(draw.choice(b"ABCDEFGHIJKLMNOPQRSTUVWXYZ0123456789") for _ in range(4))
 
 
+# ---- items, values and texts
+
+TYPES = b"bBsSlLfdjJqQcFGU?"
+WIDTHS = dict(zip(b"bBsSlLfqdjJQ", (1, 1, 2, 2, 4, 4, 4, 4, 8, 8, 8, 8)))
+
+
+def item(key, data_type, size, repeat, payload):
+    """A whole item with its padding, of zeros."""
+    return header(data_type, size, repeat, key) + payload + bytes(-len(payload) % 4)
+
+
+def one(key, data_type, payload):
+    """An item of one sample: a text, a date, a single number."""
+    return item(key, data_type, len(payload), 1, payload)
+
+
+def ask_walk(payload, forced=0):
+    return f"walk {forced} {shown(payload)}"
+
+
+def ask_items(items, most=7000):
+    """Items with keys of their own in as few payloads as lines have room for, so that each has its entry in the answer."""
+    payload, count = b"", 0
+    for data_type, size, repeat, contents in items:
+        made = item(b"%c%03d" % (97 + count // 1000, count % 1000), data_type, size, repeat, contents)
+        if len(payload) + len(made) > most:
+            yield ask_walk(payload)
+            payload = b""
+        payload, count = payload + made, count + 1
+    yield ask_walk(payload)
+
+
+def every_type(draw, times):
+    """Every type byte with sizes 0 to 17 and repeats 0 to 4, of random bytes; containers alone, with both forcings."""
+    for _ in range(times):
+        for data_type in range(1, 256):
+            yield from ask_items((data_type, size, repeat, draw.randbytes(size * repeat)) for size in range(18) for repeat in range(5))
+        for size in range(18):
+            for repeat in range(5):
+                for forced in (0, 1):
+                    yield ask_walk(item(b"STRM", 0, size, repeat, draw.randbytes(size * repeat)), forced)
+
+
+def special_numbers(draw, times):
+    """Whole numbers at the ends of their ranges; q and Q at the limits of their parts; floats with NaNs, infinities and the least."""
+    ends = [n.to_bytes(8, "big") for n in (0, 1, 2**63 - 1, 2**63, 2**63 + 1, 2**64 - 1)]
+    for letter in b"bBsSlLjJ":
+        width = WIDTHS[letter]
+        yield from ask_items((letter, width, 1, end[:part] + end[8 - width + part :]) for end in ends for part in range(width + 1))
+    highs = [*range(-258, -253), *range(-2, 3), *range(253, 259), -32768, -32767, 32766, 32767] + [draw.randrange(-32768, 32768) for _ in range(150 * times)]
+    lows = (0, 1, 64, 32768, 65535)
+    parts = [(high, low) for high in highs[:20] for low in lows] + [(high, draw.randrange(65536)) for high in highs]
+    yield from ask_items((ord("q"), 4, 1, (high % 65536 * 65536 + low).to_bytes(4, "big")) for high, low in parts)
+    highs = [n % 2**32 for n in (0, 1, -1, 2**31 - 1, -(2**31), 2**22, 2**24 + 1)]
+    lows = [0, 1, 2**31, 2**32 - 2, 2**32 - 1]
+    parts = [(high, low) for high in highs for low in lows] + [(draw.randrange(2**32), draw.randrange(2**32)) for _ in range(150 * times)]
+    yield from ask_items((ord("Q"), 8, 1, (high * 2**32 + low).to_bytes(8, "big")) for high, low in parts)
+    for letter, width, top in (("f", 4, 0x7F80 << 16), ("d", 8, 0x7FF0 << 48)):
+        half = 1 << (8 * width - 1)
+        bits = [sign + n for sign in (0, half) for n in (0, 1, 2, top >> 1, top - 1, top, top + 1, half - 1, top + (half - top) // 2)]
+        yield from ask_items((ord(letter), width, 1, n.to_bytes(width, "big")) for n in bits)
+
+
+def quaternions(draw, times):
+    """s under CORI and IORI with sizes 0 to 17 and repeats 0 to 4, and other letters and keys beside them."""
+    for _ in range(times):
+        for key in (b"CORI", b"IORI"):
+            for size in range(18):
+                for repeat in range(5):
+                    yield ask_walk(item(key, ord("s"), size, repeat, draw.randbytes(size * repeat)))
+        for key, letter in ((b"CORI", "S"), (b"IORI", "l"), (b"CORi", "s"), (b"GRAV", "s")):
+            yield ask_walk(item(key, ord(letter), 8, 3, draw.randbytes(24)))
+
+
+def dates(draw, times):
+    """Dates at the limits of each field, with signs and other bytes in each, too short, too long, and random ones."""
+    texts = [b"240229120000.000", b"230229120000.000", b"000101000000.000", b"991231235959.999", b"700101000000.000", b"+1+1+1+1+1+1.+01"]
+    base = b"240715101112.345"
+    for at, width, values in ((0, 2, range(100)), (2, 2, range(15)), (4, 2, range(34)), (6, 2, range(26)), (8, 2, range(62)), (10, 2, range(62))):
+        texts += [base[:at] + b"%02d" % n + base[at + width :] for n in values]
+        texts += [base[:at] + b"%c%d" % (sign, n) + base[at + width :] for sign in b"+- " for n in (0, 1, 9)]
+    texts += [b"%02d%02d%02d000000.000" % (year, month, day) for year in (0, 1, 4, 99) for month in range(1, 13) for day in (28, 29, 30, 31)]
+    texts += [base[:13] + n for n in (b"000", b"999", b"+99", b"-99", b" 99", b"9 9")]
+    texts += [base[:at] + bytes([b]) + base[at + 1 :] for at in range(16) for b in (0, 32, 43, 45, 46, 47, 58, 127, 128, 255)]
+    texts += [base[:at] + c.encode() + base[at + len(c.encode()) :] for at in range(15) for c in ("é", "¿")]
+    texts += [base[:length] for length in range(1, 16)] + [base + b"0", base + bytes(4)]
+    for _ in range(100 * times):
+        text = bytearray(b"%02d%02d%02d%02d%02d%02d.%03d" % tuple(draw.randrange(n) for n in (100, 14, 33, 25, 61, 61, 1000)))
+        if draw.random() < 0.3:
+            text[draw.randrange(16)] = draw.choice(b"+-. 09:/") if draw.random() < 0.7 else draw.randrange(256)
+        texts.append(bytes(text))
+    yield from ask_items((ord("U"), len(text), 1, text) for text in texts)
+    yield from ask_items((ord("U"), 4, 4, text) for text in texts[:6])
+
+
+SCALARS = (0x41, 0x7F, 0x80, 0x7FF, 0x800, 0xFFF, 0x1000, 0xD7FF, 0xE000, 0xFFFF, 0x10000, 0x3FFFF, 0x40000, 0x10FFFF)
+NOT_UTF8 = ("80", "bf", "c0", "c080", "c1bf", "c2", "c241", "df", "e0", "e080", "e08080", "e09fbf", "e0a0", "ed9f", "eda080", "edbfbf", "ee80", "f0", "f08080",
+            "f08fbfbf", "f0908080", "f3bfbf", "f48fbfbf", "f4908080", "f5808080", "f8888080", "fe", "ff", "efbfbf", "e28241", "f09f9841")
+
+
+def texts(draw, times):
+    """Texts of c and F: Latin-1, with zeros inside and behind; several, of all borders of UTF-8, whole and broken, in each of their rows."""
+    singles = [bytes(n) for n in (1, 2, 5)] + [b"a" + bytes(n) for n in range(5)] + [b"a\0b\0", b"\0a", bytes(range(256))[:255], bytes(range(1, 128)), bytes(range(128, 255))]
+    yield from ask_items((letter, len(text), 1, text) for letter in b"cF" for text in singles)
+    yield from ask_items((letter, 1, len(text), text) for letter in b"cF" for text in singles)
+    pieces = [chr(c).encode() for c in SCALARS] + [bytes.fromhex(h) for h in NOT_UTF8]
+    several = []
+    for text in pieces:
+        for before in (b"", b"x", b"\0"):
+            padded = (before + text).ljust(6, b"\0")
+            several += [(6, 2, padded + b"second"), (6, 3, b"first." + padded + b"third\0"), (6, 2, b"second" + padded), (len(before + text), 2, (before + text) * 2)]
+    for _ in range(60 * times):
+        size, repeat = draw.randrange(2, 12), draw.randrange(2, 5)
+        body = b"".join(draw.choice(pieces[: len(SCALARS)] if draw.random() < 0.9 else pieces) for _ in range(20))
+        several.append((size, repeat, body[: size * repeat].ljust(size * repeat, b"\0")))
+    yield from ask_items((ord("c"), *text) for text in several)
+    yield from ask_items((ord("F"), *text) for text in several[::5])
+
+
+def type_texts(draw, times):
+    """TYPE texts: those of document 01's case 7, at the limit of 256 characters, with numbers of 64 bits and more, and random ones."""
+    yield from ("f[3]", "f[0]", "f[1]", "f[2]", "f[+5]", "[3]f", "f[-2]", "f[3[4]", "Lff[2", "f[18446744073709551616]", "", "[", "]", "[]", "f[]", "f]", "f[3]]", "[[3]]f[2]")
+    yield from ("f[256]", "f[257]", "f[18446744073709551615]", "a[255]b", "a[255]b[2]", "ab[255]", "a[200]b[56]", "a[200]b[57]", "[256]f", "f[00000000000000000000000003]")
+    yield from ("\xe9[2]", "\xe9\xe9[3]", "\xff[3]", "\x80[2]", "\xbf[2]f[2]", "f[\xb2]", "f[2\xb2]", "f[ 2]", "f[2 ]", "f[++2]", "f[+]", "f[2+]", "f[+0]", "f[0x2]", "\0[3]", "f\0[3]")
+    yield from ("f" * 256, "f" * 257, "f[128]" * 2, "f[128]" * 2 + "f", "LLLfffs[12]", "Ff", "bBsSlLfdjJqQ", "x", "f[2]xq")
+    for _ in range(400 * times):
+        yield "".join(draw.choice("fLsb[]]]+-0123x\xe9\xff 9") for _ in range(draw.randrange(1, 14)))
+    for _ in range(100 * times):
+        yield "".join(draw.choice("fLsbB\xe9") + draw.choice(["", "[%d]" % draw.randrange(300), "[%d]" % draw.randrange(12)]) for _ in range(draw.randrange(1, 6)))
+
+
+def expanded_length(text):
+    """How many characters a TYPE text expands to: the Rust writes out what fits its memory, and more than 256 are refused with 8 here."""
+    length, number, inside = 0, "", False
+    for c in text:
+        if c == "[":
+            inside = True
+        elif c == "]":
+            digits = number[1:] if number[:1] == "+" else number
+            count = int(digits) if digits.isascii() and digits.isdigit() and int(digits) < 2**64 else 0
+            length += count - 1 if count > 1 and length > 0 else 0
+            number, inside = "", False
+        elif inside:
+            number += c
+        else:
+            length += 1
+    return length
+
+
+def expansions(draw, times):
+    for text in type_texts(draw, times):
+        if expanded_length(text) < 1_000_000:
+            yield f"expand {shown(text.encode('latin-1'))}"
+
+
+def structures(draw, times):
+    """`?` items behind a TYPE of each kind: sizes 0 to 17 and repeats 0 to 4 for some, random ones for all that expand to 256 characters or fewer."""
+    for text in ("f", "Ff", "x", "bBsS", "LLLfffs", "qQ", "f[3]", "dj[2]J"):
+        grid = ((ord("?"), size, repeat, draw.randbytes(size * repeat)) for size in range(18) for repeat in range(5))
+        for question in ask_items(grid, 4000):
+            yield ask_walk(one(b"TYPE", ord("c"), text.encode()) + bytes.fromhex(question.split()[2]))
+    for text in type_texts(draw, times):
+        if not 0 < len(text) < 255 or expanded_length(text) > 256:
+            continue
+        size, repeat = draw.randrange(1, 40), draw.randrange(1, 5)
+        typed = one(b"TYPE", draw.choice(b"ccF"), text.encode("latin-1") + bytes(draw.randrange(2)))
+        yield ask_walk(typed + item(b"ABCD", ord("?"), size, repeat, draw.randbytes(size * repeat)))
+
+
+# ---- payloads
+
+SHORT_PARTS = [header(*fields, key) for key, *fields in (
+    (b"STRM", 0, 1, 0), (b"STRM", 0, 1, 4), (b"STRM", 0, 4, 2), (b"STRM", 0, 2, 8), (b"GYRO", 0x73, 2, 1), (b"TYPE", 0x63, 1, 1),
+    (b"ABCD", 0x3F, 1, 4), (b"ABCD", 0x42, 0, 3))] + [b"f", b"\0\0\0", b"fLs[", b"\0\0\0\0\0\0\0"]
+
+
+def short_walks(draw, times):
+    """All payloads of up to 3 of these parts (of up to 4 in a long run): containers, rows, TYPE, empty items, bytes of 1, 3, 4 and 7."""
+    for count in range(4 if times == 1 else 5):
+        for parts in itertools.product(SHORT_PARTS, repeat=count):
+            yield b"".join(parts)
+
+
+def fields_of_length(draw, length):
+    """A size and a repeat that make a length, or nearly."""
+    sizes = [size for size in range(1, 256) if length % size == 0 and length // size < 65536]
+    size = draw.choice(sizes)
+    return size, length // size
+
+
+def random_item(draw, depth):
+    """An item of any kind; in a few its padding is other bytes."""
+    kind = draw.random()
+    key = draw.choice(GROUP_KEYS + OTHER_TAG_KEYS + STRANGE_KEYS).encode() if draw.random() < 0.95 else draw.randbytes(4)
+    if kind < 0.25 and depth > 0:
+        payload = random_level(draw, depth - 1)
+        key, data_type = draw.choice((b"STRM", b"DEVC", key)), 0
+    elif kind < 0.35:
+        return header(draw.choice((0, 0x63, 0x73, 0x3F)), draw.choice((0, 1, 7)), 0, draw.choice((key, b"TYPE", b"STRM")))
+    elif kind < 0.5:
+        key, data_type = b"TYPE", draw.choice(b"cccccFsB")
+        payload = draw.choice((b"f", b"fff", b"Lf[2]", b"x", b"sS\0\0", b"\0", b"bB\0"))
+    elif kind < 0.65:
+        data_type, payload = ord("?"), draw.randbytes(draw.randrange(1, 25))
+    else:
+        data_type, payload = draw.choice(TYPES if draw.random() < 0.9 else range(1, 256)), draw.randbytes(draw.randrange(1, 33))
+    if not payload:
+        return header(data_type, 1, 0, key)
+    size, repeat = (len(payload), 1) if len(payload) < 256 and draw.random() < 0.4 else fields_of_length(draw, len(payload))
+    padding = bytes(-len(payload) % 4) if draw.random() < 0.8 else draw.randbytes(-len(payload) % 4)
+    return header(data_type, size, repeat, key) + payload + padding
+
+
+def random_level(draw, depth):
+    """A few items; in some the last one lacks its padding, and in a few bytes are left over."""
+    level = b"".join(random_item(draw, depth) for _ in range(draw.choice((0, 1, 1, 2, 2, 3, 4, 6))))
+    if draw.random() < 0.3:
+        level += one(b"ABCD", ord("B"), draw.randbytes(draw.randrange(1, 6))).rstrip(b"\0") or b""
+    return level + draw.randbytes(draw.randrange(1, 8)) if draw.random() < 0.06 else level
+
+
+def damaged(draw, payload):
+    """A copy with a byte changed, cut off, put in or taken out."""
+    at = draw.randrange(len(payload) + 1)
+    way = draw.randrange(4)
+    if way == 0:
+        return payload[:at]
+    if way == 1:
+        return payload[:at] + draw.randbytes(1) + payload[at:]
+    if way == 2:
+        return payload[:at] + payload[at + 1 :]
+    return payload[:at] + draw.choice((b"\0", b"\1", b"\xff", draw.randbytes(1))) + payload[at + 1 :]
+
+
+def nested(depth, inner):
+    """Containers round an item."""
+    for _ in range(depth):
+        inner = header(0, 1, len(inner), b"STRM") + inner
+    return inner
+
+
+def random_walks(draw, times):
+    """Trees of items to a depth of 5, as they are and damaged; bytes of no order; as many containers as are accepted."""
+    for depth in range(17):
+        yield nested(depth, one(b"GYRO", ord("B"), b"\7"))
+        yield nested(depth, b"")
+    for _ in range(400 * times):
+        payload = random_level(draw, draw.randrange(6))
+        if len(payload) < 3000:
+            yield payload
+            for _ in range(draw.choice((0, 1, 2))):
+                payload = damaged(draw, payload)
+                yield payload
+    for _ in range(50 * times):
+        yield draw.randbytes(draw.randrange(40))
+
+
+def payloads(draw, times):
+    yield from short_walks(draw, times)
+    yield from random_walks(draw, times)
+
+
+def walks(draw, times):
+    return (ask_walk(payload, forced) for payload in payloads(draw, times) for forced in (0, 1))
+
+
+def last_items(draw, times):
+    return (f"last {shown(payload)}" for payload in payloads(draw, times))
+
+
 def no_questions(_):
     """Lines that are no question; the empty one has no answer."""
     yield from ("header", "header ", "header 0", "header 0 ", "header 0 0", "header 0 0g", "header 0 0G", "header 0 4A", "header 0 00 ")
@@ -116,6 +387,7 @@ def no_questions(_):
     yield from ("header 18446744073709551616 -", "header 99999999999999999999999 -", "header 00000000000000000000000000 -", "headers 0 00", "heade 0 00")
     yield from ("tag", "tag ", "tag -", "tag 4759524", "tag 4759524f4", "tag 4759524f4d", "tag 4759524F", "tag 4759524f 00", "tag +759524f", "tags 4759524f")
     yield from ("group", "group ", "group -", "group 4759524", "group 4759524f4", "group 4759524g", "group 4759524f 4759524f", "GROUP 4759524f")
+    yield from ("walk 0", "walk 2 -", "walk 00 -", "walk 1 ", "walk -", "walk 0 0", "walk 0 - -", "last", "last ", "last 0", "last - -", "expand", "expand 0", "expand 5b 5b")
     yield from ("bogus", " ", "-", "0", "unknown", "ok", "\t", "header\t0\t00", "\xe9", "tag GYRO", "")
 
 
@@ -124,7 +396,16 @@ KINDS = {
         *short_payloads(draw), *whole_and_short(draw), *limits(draw), *far_places(draw), *random_headers(draw, times)],
     "tag": lambda draw, times: [f"tag {key.hex()}" for key in keys(draw, times)],
     "group": lambda draw, times: [f"group {key.hex()}" for key in keys(draw, times)],
-    "none": lambda draw, times: [*no_questions(draw)],
+    "types": every_type,
+    "numbers": special_numbers,
+    "quaternions": quaternions,
+    "dates": dates,
+    "texts": texts,
+    "expand": expansions,
+    "structures": structures,
+    "walk": walks,
+    "last": last_items,
+    "none": lambda draw, times: no_questions(draw),
 }
 
 

@@ -23,6 +23,7 @@ fn answer(line: &str) -> Option<String> {
         "walk" => walk(asked),
         "last" => last(asked),
         "expand" => expand(asked),
+        "date" => date(asked),
         "matrix" => matrix(asked),
         "back" => back(asked),
         "quat" => quat(asked),
@@ -159,7 +160,7 @@ fn walk(asked: &[&str]) -> Option<String> {
     let headers = byteorder::u16_reads() - before;
     Some(match map {
         Ok(map) => format!("ok h={headers}{}", show_map(&map)),
-        Err(_) => format!("err h={headers}"),
+        Err(_) => "err".into(),
     })
 }
 
@@ -178,7 +179,14 @@ fn last(asked: &[&str]) -> Option<String> {
 /// expand HEX (a Latin-1 text)
 fn expand(asked: &[&str]) -> Option<String> {
     let [text] = asked else { return None };
-    Some(format!("ok {}", probe::expand(&latin1(&bytes(text)?)).show()))
+    let expanded = probe::expand(&latin1(&bytes(text)?));
+    Some(if expanded.chars().count() > 256 { "long".into() } else { format!("ok {}", expanded.show()) })
+}
+
+/// date HEX (a text)
+fn date(asked: &[&str]) -> Option<String> {
+    let [text] = asked else { return None };
+    Some(probe::date(&bytes(text)?).map_or("err".into(), |ms| format!("ok {ms}")))
 }
 
 /// matrix ORIN ORIO

@@ -56,21 +56,25 @@ pub fn probe_parse<T: Clone>(v: &ValueType<T>) -> std::io::Result<T> {
     }
 }
 
-pub trait Show { fn show(&self) -> String; }
-macro_rules! show_int { ($($t:ty),*) => { $(impl Show for $t { fn show(&self) -> String { self.to_string() } })* } }
-show_int!(i8, u8, i16, u16, i32, u32, i64, u64);
-// every NaN is one NaN
-impl Show for f32 { fn show(&self) -> String { if self.is_nan() { "fnan".into() } else { format!("f{:08x}", self.to_bits()) } } }
-impl Show for f64 { fn show(&self) -> String { if self.is_nan() { "dnan".into() } else { format!("d{:016x}", self.to_bits()) } } }
+/// How a value is printed; a text among others is printed by its UTF-8 bytes, one alone by its Latin-1 bytes.
+pub trait Show {
+    fn show(&self) -> String;
+    fn show_in_list(&self) -> String { self.show() }
+}
+macro_rules! show_whole {
+    ($sign:literal: $($t:ty),*) => { $(impl Show for $t { fn show(&self) -> String { format!("{}{self}", $sign) } })* };
+}
+show_whole!("i": i8, i16, i32, i64);
+show_whole!("u": u8, u16, u32, u64);
+// every NaN is shown as one NaN
+impl Show for f32 { fn show(&self) -> String { format!("f{:08x}", if self.is_nan() { f32::NAN.to_bits() } else { self.to_bits() }) } }
+impl Show for f64 { fn show(&self) -> String { format!("d{:016x}", if self.is_nan() { f64::NAN.to_bits() } else { self.to_bits() }) } }
 impl Show for String {
-    fn show(&self) -> String {
-        let bytes: String = self.bytes().map(|b| format!("{b:02x}")).collect();
-        let points: Vec<String> = self.chars().map(|c| format!("{:x}", c as u32)).collect();
-        format!("t{}/{}", bytes, points.join("."))
-    }
+    fn show(&self) -> String { format!("t{}", self.chars().map(|c| format!("{:02x}", c as u32)).collect::<String>()) }
+    fn show_in_list(&self) -> String { format!("t{}", self.bytes().map(|b| format!("{b:02x}")).collect::<String>()) }
 }
 impl<T: Show> Show for Vec<T> {
-    fn show(&self) -> String { format!("[{}]", self.iter().map(|x| x.show()).collect::<Vec<_>>().join(";")) }
+    fn show(&self) -> String { format!("[{}]", self.iter().map(|x| x.show_in_list()).collect::<Vec<_>>().join(";")) }
 }
 impl<T: Show> Show for Vector3<T> {
     fn show(&self) -> String { format!("[{};{};{}]", self.x.show(), self.y.show(), self.z.show()) }
@@ -85,38 +89,40 @@ impl<T: Show> Show for TimeQuaternion<T> {
     fn show(&self) -> String { format!("[{};{}]", self.t.show(), self.v.show()) }
 }
 impl Show for Uuid {
-    fn show(&self) -> String { format!("[{};{};{};{}]", self.0, self.1, self.2, self.3) }
+    fn show(&self) -> String { vec![self.0, self.1, self.2, self.3].show() }
 }
 impl Show for Scalar {
     fn show(&self) -> String {
         match self {
-            Scalar::u8(v) => format!("u8:{v}"),   Scalar::i8(v) => format!("i8:{v}"),
-            Scalar::u16(v) => format!("u16:{v}"), Scalar::i16(v) => format!("i16:{v}"),
-            Scalar::u32(v) => format!("u32:{v}"), Scalar::i32(v) => format!("i32:{v}"),
-            Scalar::u64(v) => format!("u64:{v}"), Scalar::i64(v) => format!("i64:{v}"),
-            Scalar::f32(v) => v.show(),           Scalar::f64(v) => v.show(),
-            Scalar::String(v) => v.show(),        Scalar::bool(v) => v.to_string(),
+            Scalar::u8(v) => v.show(),  Scalar::i8(v) => v.show(),  Scalar::u16(v) => v.show(), Scalar::i16(v) => v.show(),
+            Scalar::u32(v) => v.show(), Scalar::i32(v) => v.show(), Scalar::u64(v) => v.show(), Scalar::i64(v) => v.show(),
+            Scalar::f32(v) => v.show(), Scalar::f64(v) => v.show(), Scalar::String(v) => v.show(), Scalar::bool(v) => v.to_string(),
         }
     }
 }
 impl Show for crate::rig::CameraRig { fn show(&self) -> String { "rig".into() } }
 
-fn shown<T: Clone + Show>(v: &ValueType<T>) -> String {
-    match std::panic::catch_unwind(std::panic::AssertUnwindSafe(|| probe_parse(v))) {
-        Ok(Ok(x)) => x.show(),
-        Ok(Err(_)) => "err".into(),
-        Err(_) => "panic".into(),
-    }
+/// The value as it is printed; none where its read fails or panics.
+fn shown<T: Clone + Show>(v: &ValueType<T>) -> Option<String> {
+    std::panic::catch_unwind(std::panic::AssertUnwindSafe(|| probe_parse(v))).ok()?.ok().map(|x| x.show())
+}
+
+/// The bytes of an item, its header first: in front of a structure's the Rust keeps the expanded type and its length.
+fn item_bytes<'a>(variant: &str, raw: &'a [u8]) -> &'a [u8] {
+    if !variant.ends_with("Scalar") { return raw; }
+    &raw[2 + u16::from_be_bytes([raw[0], raw[1]]) as usize..]
 }
 
 macro_rules! probe_values {
     ($($field:ident: $type:ty),*,) => {
-        /// Variant name, raw bytes and the value read (`err`, `panic` where the read fails).
+        /// Variant name, the item's bytes and the value read; no name and `err` where the read fails or panics.
         pub fn probe_value(v: &TagValue) -> (&'static str, &[u8], String) {
-            match v {
+            let (variant, raw, value) = match v {
                 $(TagValue::$field(t) => (stringify!($field), &t.raw_data[..], shown(t)),)*
-                TagValue::Unknown(t) => ("Unknown", &t.raw_data[..], "-".into()),
-            }
+                TagValue::Unknown(t) => ("Unknown", &t.raw_data[..], Some("-".into())),
+            };
+            let bytes = item_bytes(variant, raw);
+            match value { Some(value) => (variant, bytes, value), None => ("-", bytes, "err".into()) }
         }
     };
 }

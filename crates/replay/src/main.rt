@@ -1,7 +1,8 @@
 // Answers the questions that the Rust oracle was asked, a line each, by our library (oracle/README.md has the protocol).
 // Standard input may have any length. A line of more than 16,384 bytes, and one that is no question, is answered `unknown`.
-mod answers;
+mod entries;
 mod questions;
+mod shown;
 
 // What is held between two reads: how much of a line, with one byte at most that is too many, and how much of answers not yet written.
 struct State {
@@ -89,13 +90,21 @@ fn answer(line: &[u8], count: usize, output: &mut [u8], laid: usize) -> usize {
     if count == 0 {
         return laid;
     }
-    let found = questions::answer_to(first(line, count));
-    let next = answers::put_line(found, output, laid);
+    let next = questions::put_line(first(line, count), output, laid);
     if next != text::FULL {
         return next;
     }
     write(output, laid);
-    answers::put_line(found, output, 0)
+    answer_first(line, count, output)
+}
+
+// Lays the answer to a line into an output that is all free.
+fn answer_first(line: &[u8], count: usize, output: &mut [u8]) -> usize {
+    let next = questions::put_line(first(line, count), output, 0);
+    if next != text::FULL {
+        return next;
+    }
+    text::put_bytes(output, 0, b"too long\n")
 }
 
 fn write(output: &[u8], laid: usize) {
