@@ -1,0 +1,149 @@
+-- THE VALUE OF A ROW: asked for at the places that a row of an accepted reading names, a value is that of the row's own header, payload and TYPE text.
+-- So it is never refused with 1, 2 or 12: with 6, 7 or 8 by the value itself, or with 13 for a row or a column outside. From what the laws of reading say
+-- to stand at a record's places. Assumes nothing.
+use Prim.Native.Nat.{ℕ, _*_, _≤_, _<_}
+use Prim.Native.Char.{code}
+use mathlib.Core.Path.{_≡_, refl, ap, _∙_, subst}
+use mathlib.Core.Logic.{_≢_, _⊎_, inl, inr}
+use mathlib.Core.Bool.{Bool, true, false, cond}
+use mathlib.Core.List.{List, [], _∷_, List·Memᴰ}
+use native.Mathlib.Decide.{decLe}
+use native.Mathlib.Omega.{arith}
+use borrow.Author.Tests.{ne-eqb, lt-ltb, le-ltb}
+use lib.Dec.{eqb, leb, ltb}
+use lib.ListN.{length, drop}
+use Rattle.klv.specs.declared.KLV.{KLV}
+use Rattle.klv.specs.declared.Header.the-variants.{Item}
+use Rattle.klv.specs.Item.{dataLen, item, firstItem, nextAt}
+use Rattle.klv.proofs.Item.{item-lengths}
+use Rattle.klv.proofs.Place.{at-item, first-item}
+use Rattle.elements.specs.Types.{widthOf}
+use Rattle.texts.specs.Kept.{kept}
+use Rattle.texts.specs.Texts.{areWellFormed}
+use Rattle.reading.specs.Record.{TypeInForce, noType, typeAt, Record, typePlace}
+use Rattle.reading.specs.Walk.{rowItem, accepted, readingOf}
+use Rattle.reading.proofs.Payload.{read-long}
+use Rattle.reading.proofs.Role.{Means, role-means}
+use Rattle.reading.proofs.Stand.{ItemStands, InForceStands, Stands, read-stands}
+use Rattle.dates.specs.declared.Date.{Date}
+use Rattle.dates.specs.declared.Date.the-variants.{Milliseconds, TooFew, Unreadable}
+use Rattle.dates.specs.Date.{dateOf}
+use Rattle.custom_type.specs.Expansion.{expanded}
+use Rattle.values.specs.declared.plan.Plan.{Plan}
+use Rattle.values.specs.declared.plan.Plan.the-variants as plan
+use Rattle.values.specs.declared.grid.Grid.{Grid}
+use Rattle.values.specs.Value.{Value, Outcome, readable, refused, placed, gridded, unknown, texts, dated, widthsOf, structured, structures, reading, planOf, valueBy, valueOf}
+use Rattle.values.specs.At.{named, typeFor, found, foundBy, foundAt, wholeIf}
+use Rattle.values.specs.At as At
+
+-- the TYPE text that a row's value is read by, without its trailing zeros: only a `?` item asks for one
+abbrev pub textFor : KLV → TypeInForce → List ℕ
+textFor h noType = []
+textFor h (typeAt at text) = cond (eqb (h .«data_type») (code "?")) (kept text) []
+
+-- a row's value: of its header, its payload and its TYPE text, and of nothing else
+abbrev pub rowValue : Record → Outcome
+rowValue r = valueOf (r .content .header) (r .content .payload) (textFor (r .content .header) (r .type))
+
+module _ (s : List ℕ) (within : length s ≤ 1048576) where
+  -- an item that stands at a place stands first from there on, and is as long as its header says
+  first : (at : ℕ) (h : KLV) (payload : List ℕ) → ItemStands s at h payload → firstItem (drop at s) ≡ item h payload (drop (nextAt at h) s)
+  first at h payload there = first-item s at h (there .header) ∙ ap (λ (p : List ℕ). item h p (drop (nextAt at h) s)) (there .payload-is)
+
+  long : (at : ℕ) (h : KLV) (payload : List ℕ) → ItemStands s at h payload → length payload ≡ dataLen h
+  long at h payload there = item-lengths (drop at s) h payload (drop (nextAt at h) s) (first at h payload there) .is-data
+
+  -- the TYPE in force is the text named by its place
+  named-there : (t : TypeInForce) → InForceStands s t → (h : KLV) → typeFor (h .«data_type») s (typePlace t) ≡ named (textFor h t)
+  unfolding At.typeAt
+  named-there noType stands h = both (eqb (h .«data_type») (code "?"))
+    where
+      both : (b : Bool) → cond b (named []) (named []) ≡ named []
+      both true = refl
+      both false = refl
+  named-there (typeAt at text) stands h = go (eqb (h .«data_type») (code "?"))
+    where
+      at-small : at ≢ 4294967295
+      at-small e = let f = at-item s at (stands .header) (stands .item .header) .fits in omega (arith, f, within)
+
+      some : 0 < length text
+      some = let l = long at (stands .header) text (stands .item) in let n = stands .not-empty in omega arith
+
+      is : At.typeAt s at ≡ named (kept text)
+      is = rw (ne-eqb at 4294967295 at-small, first at (stands .header) text (stands .item), stands .one-text, lt-ltb 0 (length text) some)
+
+      go : (b : Bool) → cond b (At.typeAt s at) (named []) ≡ named (cond b (kept text) [])
+      go true = is
+      go false = refl
+
+  -- what is found at a record's places
+  found-there : (r : Record) → Stands s r → foundAt s (r .place) (typePlace (r .type)) ≡ found (r .content .header) (r .content .payload) (textFor (r .content .header) (r .type))
+  unfolding foundAt
+  found-there r stands = rw (le-ltb 1048576 (length s) within, first (r .place) (r .content .header) (r .content .payload) (stands .item)) (go (r .content .payload) some)
+    where
+      h : KLV
+      h = r .content .header
+
+      some : 0 < length (r .content .payload)
+      some = let m : Means h rowItem = subst (Means h) (stands .row) (role-means h) in let l = long (r .place) h (r .content .payload) (stands .item) in let n = m .0 in omega arith
+
+      go : (payload : List ℕ) → 0 < length payload → foundBy (item h payload (drop (nextAt (r .place) h) s)) s (r .place) (typePlace (r .type)) ≡ found h payload (textFor h (r .type))
+      go [] l = absurd (omega arith)
+      go (b ∷ p) l = ap (λ n. wholeIf n h (b ∷ p) (r .place)) (named-there (r .type) (stands .type) h)
+
+-- a payload that is accepted is within the limit
+accepted-within : (forced : Bool) (s : List ℕ) (room : ℕ) (rs : List Record) (headers : ℕ) → readingOf forced s room ≡ accepted rs headers → length s ≤ 1048576
+accepted-within forced s room rs headers e = go (decLe (length s) 1048576)
+  where
+    go : Dec (length s ≤ 1048576) → length s ≤ 1048576
+    go (yes l) = l
+    go (no l) = let over = read-long forced s room (omega arith) in let o : _≡_ {A = ℕ} 0 1 = cc in absurd (omega arith)
+
+-- EACH ROW of an accepted reading leads to its own value
+pub row-value : (forced : Bool) (s : List ℕ) (room : ℕ) (rs : List Record) (headers : ℕ) → readingOf forced s room ≡ accepted rs headers → (r : Record) → List·Memᴰ r rs
+    → foundAt s (r .place) (typePlace (r .type)) ≡ found (r .content .header) (r .content .payload) (textFor (r .content .header) (r .type))
+row-value forced s room rs headers e r m = found-there s (accepted-within forced s room rs headers e) r (read-stands forced s room rs headers e r m)
+
+-- ---- a value itself is refused with 6, 7 or 8 only
+
+abbrev pub OwnRefusal : Outcome → Type 0
+OwnRefusal (readable v) = Unit {0}
+OwnRefusal (refused number) = (number ≡ 6) ⊎ (number ≡ 7) ⊎ (number ≡ 8)
+
+-- where a test passes the value is readable, else it is refused with one of the three
+own-if : (number : ℕ) → OwnRefusal (refused number) → (v : Value) (b : Bool) → OwnRefusal (cond b (readable v) (refused number))
+own-if number own v true = tt
+own-if number own v false = own
+
+gridded-own : (g : Grid) (payload : List ℕ) → OwnRefusal (gridded g payload)
+gridded-own g payload =
+    own-if 6 (inl refl) (record { kind = g .kind; rows = g .rows; columns = λ row. g .columns; element = placed g payload })
+    (leb (g .rows * g .columns * widthOf (g .letter)) (length payload))
+
+dated-own : (d : Date) → OwnRefusal (dated d)
+dated-own (Milliseconds n) = tt
+dated-own TooFew = inl refl
+dated-own Unreadable = inr (inl refl)
+
+structured-own : (letters : List ℕ) (h : KLV) (payload : List ℕ) → OwnRefusal (structured letters h payload)
+structured-own letters h payload = own-if 6 (inl refl) _ (leb (h .repeat * widthsOf letters) (length payload))
+
+structures-own : (type : List ℕ) (h : KLV) (payload : List ℕ) → OwnRefusal (structures type h payload)
+structures-own [] h payload = gridded-own unknown payload
+structures-own (c ∷ type) h payload = go (leb (length (expanded (c ∷ type))) 256)
+  where
+    go : (b : Bool) → OwnRefusal (cond b (structured (reading (expanded (c ∷ type))) h payload) (refused 8))
+    go true = structured-own (reading (expanded (c ∷ type))) h payload
+    go false = inr (inr refl)
+
+texts-own : (h : KLV) (payload : List ℕ) → OwnRefusal (texts h payload)
+texts-own h payload = own-if 7 (inr (inl refl)) _ (areWellFormed (h .size) payload)
+
+pub own-refusal : (h : KLV) (payload type : List ℕ) → OwnRefusal (valueOf h payload type)
+own-refusal h payload type = go (planOf h payload)
+  where
+    go : (p : Plan) → OwnRefusal (valueBy p h payload type)
+    go (plan.Even g) = gridded-own g payload
+    go plan.Texts = texts-own h payload
+    go plan.Date = dated-own (dateOf payload)
+    go plan.Structures = structures-own type h payload
