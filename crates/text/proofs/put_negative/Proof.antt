@@ -38,7 +38,7 @@ put-digits-requires : tie.Need-put-digits-requires
 put-digits-requires c κs = search needs
 
 same-length : tie.Need-same-length
-same-length c = let a = c .before .before .before .before .before .before .before .before .before .args in c .before .before .put-digits .kept .0 ∙ length-set (a .out .now) (a .at) 45
+same-length c = let a = c .before .before .before .before .before .before .before .before .before .args in c .before .before .put-digits .kept .0 ∙ length-set (a .out .now) (a .at) _
 
 returns-2 : tie.Need-returns-2
 returns-2 c =
