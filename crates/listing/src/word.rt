@@ -1,0 +1,134 @@
+// The words of a line, laid one behind the other into a buffer that holds the longest line.
+use metadata::Metadata;
+use rows::Row;
+ghost use mathlib.Core.Path.{_≡_};
+ghost use mathlib.Core.List.{[], _∷_, _++_};
+ghost use Prim.Native.Nat.{_/_, _%_, _^_};
+ghost use Rattle.foundation.specs.BigEndian.{bytesOf};
+ghost use Rattle.foundation.specs.Text.{characters};
+ghost use Rattle.text.specs.Numerals.{lastDigits, decimal};
+ghost use Rattle.listing.specs.Line.{spaced, visible, allVisible, shownKey, shownGroup};
+ghost use Rattle.listing.specs.Listing.{groupIn, headerIn, answerLine, rowLine};
+ghost use Rattle.listing.specs.Lines.{Joins, Makes};
+
+// The first line of an answer.
+pub(crate) fn make_answer(line: &mut [u8; 64], answer: Metadata) -> usize
+    ensures { λ r. ⌜ Makes (answerLine answer) r (now (line .exit)) ⌝ }
+{
+    match answer {
+        Metadata::Rows { rows, headers } => {
+            let counted = put_pair(line, 0, b"rows ", rows as u64, b' ');
+            put_pair(line, counted, b"headers ", headers as u64, b'\n')
+        }
+        Metadata::Refused { number, place } => {
+            let why = put_pair(line, 0, b"refused ", number as u64, b' ');
+            put_pair(line, why, b"at ", place as u64, b'\n')
+        }
+    }
+}
+
+// The line of a row.
+pub(crate) fn make_row(line: &mut [u8; 64], row: Row) -> usize
+    ensures { λ r. ⌜ Makes (rowLine row) r (now (line .exit)) ⌝ }
+{
+    let place = put_number(line, 0, row.place as u64, b' ');
+    let keys = put_keys(line, place, row);
+    let shape = put_shape(line, keys, row.shape);
+    put_number(line, shape, row.depth as u64, b'\n')
+}
+
+// A word and a number, with what ends the number.
+fn put_pair(out: &mut [u8], at: usize, word: &[u8], n: u64, end: u8) -> usize
+    ensures { λ r. ⌜ Joins (now (word .entry) ++ (decimal n ++ end ∷ [])) (now (out .entry)) at r (now (out .exit)) ⌝ }
+{
+    let named = text::put_bytes(out, at, word);
+    put_number(out, named, n, end)
+}
+
+// A number, with what ends it.
+fn put_number(out: &mut [u8], at: usize, n: u64, end: u8) -> usize
+    ensures { λ r. ⌜ Joins (decimal n ++ end ∷ []) (now (out .entry)) at r (now (out .exit)) ⌝ }
+{
+    let number = text::put_decimal(out, at, n);
+    text::put(out, number, end)
+}
+
+// Type, size and repeat.
+fn put_shape(out: &mut [u8], at: usize, shape: u32) -> usize
+    ensures { λ r. ⌜ Joins (spaced (decimal (shape / 2 ^ 24)) ++ (spaced (decimal (shape / 2 ^ 16 % 256)) ++ spaced (decimal (shape % 2 ^ 16)))) (now (out .entry)) at r (now (out .exit)) ⌝ }
+{
+    let letter = put_number(out, at, (shape / 0x100_0000) as u64, b' ');
+    let size = put_number(out, letter, (shape / 0x1_0000 % 256) as u64, b' ');
+    put_number(out, size, (shape % 0x1_0000) as u64, b' ')
+}
+
+// Group and key.
+fn put_keys(out: &mut [u8], at: usize, row: Row) -> usize
+    ensures { λ r. ⌜ Joins (spaced (shownGroup (groupIn row)) ++ spaced (shownKey (row .key))) (now (out .entry)) at r (now (out .exit)) ⌝ }
+{
+    let group = put_group(out, at, row);
+    let space = text::put(out, group, b' ');
+    let key = put_key(out, space, row.key);
+    text::put(out, key, b' ')
+}
+
+fn put_group(out: &mut [u8], at: usize, row: Row) -> usize
+    ensures { λ r. ⌜ Joins (shownGroup (groupIn row)) (now (out .entry)) at r (now (out .exit)) ⌝ }
+{
+    if row.group_kind == 0 {
+        return text::put(out, at, b'-');
+    }
+    put_key(out, at, row.group_key)
+}
+
+// A key by its four bytes, or in hex where one of them cannot be seen.
+fn put_key(out: &mut [u8], at: usize, key: u32) -> usize
+    ensures { λ r. ⌜ Joins (shownKey key) (now (out .entry)) at r (now (out .exit)) ⌝ }
+{
+    let bytes = key_bytes(key);
+    if all_visible(&bytes) {
+        return text::put_bytes(out, at, &bytes);
+    }
+    let x = text::put(out, at, b'x');
+    text::put_hex(out, x, key as u64, 8)
+}
+
+fn key_bytes(key: u32) -> [u8; 4]
+    ensures { λ r. ⌜ r ≡ bytesOf 4 key ⌝ }
+{
+    let high = key / 256;
+    let higher = high / 256;
+    let highest = higher / 256;
+    [
+        (highest % 256) as u8,
+        (higher % 256) as u8,
+        (high % 256) as u8,
+        (key % 256) as u8,
+    ]
+}
+
+// Whether each byte can be seen in a line.
+fn all_visible(s: &[u8]) -> bool
+    ensures { λ r. ⌜ r ≡ allVisible (now (s .entry)) ⌝ }
+{
+    let mut i: usize = 0;
+    while i < s.len() {
+        if !is_visible(s[i]) {
+            return false;
+        }
+        i += 1;
+    }
+    true
+}
+
+fn is_visible(b: u8) -> bool
+    ensures { λ r. ⌜ r ≡ visible b ⌝ }
+{
+    if b < 33 {
+        return false;
+    }
+    if b > 126 {
+        return false;
+    }
+    true
+}
