@@ -17,12 +17,10 @@ pub(crate) fn make_answer(line: &mut [u8; 64], answer: Metadata) -> usize
 {
     match answer {
         Metadata::Rows { rows, headers } => {
-            let counted = put_pair(line, 0, b"rows ", rows as u64, b' ');
-            put_pair(line, counted, b"headers ", headers as u64, b'\n')
+            put_pairs(line, b"rows ", rows as u64, b"headers ", headers as u64)
         }
         Metadata::Refused { number, place } => {
-            let why = put_pair(line, 0, b"refused ", number as u64, b' ');
-            put_pair(line, why, b"at ", place as u64, b'\n')
+            put_pairs(line, b"refused ", number as u64, b"at ", place as u64)
         }
     }
 }
@@ -35,6 +33,14 @@ pub(crate) fn make_row(line: &mut [u8; 64], row: Row) -> usize
     let keys = put_keys(line, place, row);
     let shape = put_shape(line, keys, row.shape);
     put_number(line, shape, row.depth as u64, b'\n')
+}
+
+// A line of two words, each with its number.
+fn put_pairs(out: &mut [u8], word: &[u8], n: u64, next: &[u8], m: u64) -> usize
+    ensures { λ r. ⌜ Joins ((now (word .entry) ++ spaced (decimal n)) ++ (now (next .entry) ++ (decimal m ++ 10 ∷ []))) (now (out .entry)) 0 r (now (out .exit)) ⌝ }
+{
+    let first = put_pair(out, 0, word, n, b' ');
+    put_pair(out, first, next, m, b'\n')
 }
 
 // A word and a number, with what ends the number.
