@@ -1,6 +1,6 @@
 # Holds docs/PROMISES.md to the sources, and prints what does not fit: a public function without a line in its crate's section, a line
-# for a function that is not there, an empty cell, a line that does not name two must-fail edits that are there.
-# Reads lines `crate NAME`, `call CRATE FUNCTION` and `edit CRATE LABEL`, then the document (-v document=..): a section `## CRATE` for each crate, and
+# for a function that is not there, an empty cell, a line that does not name two must-fail edits and a theorem of one answer that are there.
+# Reads lines `crate NAME`, `call CRATE FUNCTION`, `edit CRATE LABEL` and `theorem NAME`, then the document (-v document=..): a section `## CRATE` for each crate, and
 # in it a table of calls | definition | promise | one answer | must-fail edits | runs.
 
 function fault(message) { print "docs/PROMISES.md: " message }
@@ -13,14 +13,22 @@ function name_in(cell) {
     return cell
 }
 
-# How many edits a cell names; one that is not there is a fault.
-function edits_in(cell,    part, n, i, count) {
+# How many edits of its own crate a cell names; one that is not there, there or in another crate (`CRATE/LABEL`), is a fault.
+function edits_in(cell,    part, n, i, count, of, label) {
     n = split(cell, part, "`")
     for (i = 2; i <= n; i += 2) {
-        if (("edit " section " " part[i]) in there) count++
-        else fault("there is no crates/" section "/must-fail/" part[i] ".edit, which `" call "` names")
+        of = section
+        label = part[i]
+        if (split(part[i], path, "/") == 2) { of = path[1]; label = path[2] }
+        if (("edit " of " " label) in there) count += of == section
+        else fault("there is no crates/" of "/must-fail/" label ".edit, which `" call "` names")
     }
     return count
+}
+
+# Whether a cell begins with the name of a theorem of one answer.
+function is_settled(cell,    part) {
+    return split(cell, part, "`") >= 3 && ("theorem " part[2]) in there
 }
 
 FILENAME != document {
@@ -35,6 +43,7 @@ FILENAME != document {
     for (i = 2; i < n; i++) if (cell[i] ~ /^[ \t]*$/) fault("a cell of `" call "` is empty")
     if (("call " section " " call) in there) promised["call " section " " call]
     else fault("crates/" section " has no public function `" call "`")
+    if (!is_settled(cell[5])) fault("`" call "` names no theorem of one answer")
     if (edits_in(cell[6]) < 2) fault("`" call "` names fewer than two must-fail edits")
 }
 END {

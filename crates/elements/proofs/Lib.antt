@@ -1,3 +1,5 @@
 mod Keys
 mod Nans
 mod TwosComplement
+pub mod Whole
+pub mod Cases

@@ -1,3 +1,4 @@
 mod Decide
 mod Written
 mod Passes
+pub mod Cases

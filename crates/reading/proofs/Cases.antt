@@ -128,6 +128,10 @@ samples =
     ∷ chains (described ++ item "SCAL" (code "B") 1 1 (9 ∷ [])) (theItem 12 (header "SCAL" (code "B") 1 1))
     -- a TYPE is in force for later items of its level, and not for those before it
     ∷ reads (described ++ describes ++ described) false (rows (question 0 0 0 noPlace 0 ∷ question 24 0 0 12 0 ∷ []) 3)
+    -- of two the later one is
+    ∷ reads (describes ++ describes ++ described) false (rows (question 24 0 0 12 0 ∷ []) 3)
+    -- of type F it is one too
+    ∷ reads (item "TYPE" (code "F") 1 1 (characters "B") ++ padding ++ described) false (rows (question 12 0 0 0 0 ∷ []) 2)
     -- nor inside a container; behind the container it still is
     ∷ reads (describes ++ holding "STRM" described ++ described) false (rows (question 20 1 (key "ABCD") noPlace 1 ∷ question 32 0 0 0 0 ∷ []) 5)
     -- nor after its level
@@ -135,6 +139,8 @@ samples =
     -- an empty TYPE is skipped, and a TYPE of two texts is a row
     ∷ reads (describes ++ item "TYPE" (code "c") 1 0 [] ++ described) false (rows (question 20 0 0 0 0 ∷ []) 3)
     ∷ reads (item "TYPE" (code "c") 2 2 (characters "BBBB")) false (rows (row 0 0 0 0 (key "TYPE") 0x63_02_0002 noPlace 0 ∷ []) 1)
+    -- a container keyed TYPE is a container
+    ∷ reads (holding "TYPE" described ++ described) false (rows (question 8 1 (key "ABCD") noPlace 1 ∷ question 20 0 0 noPlace 0 ∷ []) 4)
     -- an item that is no `?` item shows no TYPE
     ∷ reads (describes ++ item "SCAL" (code "B") 1 1 (9 ∷ [])) false (rows (row 12 0 0 4 (key "SCAL") 0x42_01_0001 noPlace 0 ∷ []) 2)
     -- the caller's group holds throughout where it is forced, and each header is read once

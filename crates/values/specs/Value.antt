@@ -18,7 +18,10 @@ use Rattle.texts.specs.Texts.{areWellFormed}
 use Rattle.dates.specs.declared.Date.{Date}
 use Rattle.dates.specs.declared.Date.the-variants.{Milliseconds, TooFew, Unreadable}
 use Rattle.dates.specs.Date.{dateOf}
+use Rattle.dates.specs.Date as Date
+use Rattle.custom_type.specs.declared.Expanded.the-variants.{TooLong}
 use Rattle.custom_type.specs.Expansion.{expanded}
+use Rattle.custom_type.specs.Resolved as Resolved
 use Rattle.values.specs.declared.Kind.{Kind}
 use Rattle.values.specs.declared.Kind.the-variants as kind
 use Rattle.values.specs.declared.grid.Grid.{Grid}
@@ -101,8 +104,8 @@ texts h payload =
 
 abbrev pub dated : Date → Outcome
 dated (Milliseconds n) = readable (record { kind = kind.DateTime; rows = 1; columns = λ row. 1; element = λ row column. Unsigned n })
-dated TooFew = refused 6
-dated Unreadable = refused 7
+dated TooFew = refused (Date.refusal TooFew)
+dated Unreadable = refused (Date.refusal Unreadable)
 
 -- ---- structures, whose columns have letters of their own
 
@@ -127,10 +130,10 @@ structured letters h payload =
       element = λ row column. elementAt payload (row * widthsOf letters + widthsOf (take column letters)) (getD letters column 0);
     })
 
--- the TYPE text is written out, to 256 characters at most (refusal 8); no TYPE, or an empty one: unknown
+-- the TYPE text is written out, to 256 characters at most (refusal 8, of `resolve_custom_type`); no TYPE, or an empty one: unknown
 abbrev pub structures : List ℕ → KLV → List ℕ → Outcome
 structures [] h payload = gridded unknown payload
-structures (c ∷ type) h payload = cond (leb (length (expanded (c ∷ type))) 256) (structured (reading (expanded (c ∷ type))) h payload) (refused 8)
+structures (c ∷ type) h payload = cond (leb (length (expanded (c ∷ type))) 256) (structured (reading (expanded (c ∷ type))) h payload) (refused (Resolved.refusal TooLong))
 
 -- ---- THE VALUE
 
