@@ -1,8 +1,8 @@
 -- What is printed, by the limit on the bytes held; and a listing laid into a buffer that holds the longest one. Assumes nothing.
 use Prim.Native.Nat.{ℕ, _≤_, _<_}
-use mathlib.Core.Path.{_≡_, ap, _∙_}
+use mathlib.Core.Path.{_≡_, ap}
 use mathlib.Core.Bool.{Bool, true, false, cond}
-use mathlib.Core.List.{List, [], _∷_, flatten}
+use mathlib.Core.List.{List, [], _∷_}
 use native.Mathlib.Omega.{arith}
 use borrow.Author.Tests.{lt-ltb, le-ltb}
 use lib.Dec.{ltb}
@@ -11,8 +11,7 @@ use Rattle.reading.specs.Refusal.{tooLong}
 use Rattle.reading.specs.Walk.{Outcome, refused, readingOf, roomOf}
 use Rattle.metadata.specs.Metadata.{told}
 use Rattle.metadata.specs.declared.Metadata.the-variants.{Refused}
-use Rattle.text.specs.Lay.{full}
-use Rattle.listing.specs.Listing.{answerLine, recordLines, listing}
+use Rattle.listing.specs.Listing.{answerLine, recordLines}
 use Rattle.listing.specs.Lines.{LaysLines, Begins, Lists}
 use Rattle.listing.proofs.Lines.{lines-begin}
 use Rattle.gpmf_list.specs.Printed.{heldBytes, rowNumbers, readAs, printed}

@@ -1,17 +1,13 @@
 -- Listings computed by the definitions: document 01's case 12 to the byte, the empty payload, a refused one, and keys that cannot be seen.
 -- Assumes nothing.
 use Prim.Native.Nat.{ℕ}
-use Prim.Native.Char.{code}
 use Prim.Native.String.{String}
 use mathlib.Core.Path.{_≡_, refl}
 use mathlib.Core.Bool.{false}
-use mathlib.Core.List.{List, [], _∷_, _++_, map, flatten}
-use lib.ListN.{length}
+use mathlib.Core.List.{List, [], _∷_, map, flatten}
 use Rattle.foundation.specs.BigEndian.{bytesOf}
 use Rattle.foundation.specs.Fuel.{run, fix}
 use Rattle.foundation.specs.Text.{characters}
-use Rattle.keys.specs.Keys.{tags}
-use Rattle.keys.specs.Table.{found}
 use Rattle.klv.specs.Item.{firstItem}
 use Rattle.klv.specs.Level.{itemsOf}
 use Rattle.klv.specs.OneText.{oneText, typeText}

@@ -1,13 +1,13 @@
 -- Texts laid one behind the other are the texts joined; and one that fits, laid at the start of a buffer, is what the buffer begins with. Assumes nothing.
-use Prim.Native.Nat.{ℕ, zero, _+_, _≤_, _<_}
+use Prim.Native.Nat.{ℕ, _+_, _≤_, _<_}
 use mathlib.Core.Path.{_≡_, refl, sym, ap, _∙_}
 use mathlib.Core.Bool.{Bool, true, false, cond}
-use mathlib.Core.List.{List, [], _∷_, _++_}
+use mathlib.Core.List.{List, _++_}
 use native.Mathlib.Nat.{zero-add}
 use native.Mathlib.Omega.{arith}
 use borrow.Author.Tests.{leb-true, le-leb, lt-leb}
 use lib.Dec.{leb}
-use lib.ListN.{length, take, drop, length-append, length-take, length-drop}
+use lib.ListN.{length, drop, length-append, length-take, length-drop}
 use lib.Seq.{length-take-le, take-append-seam}
 use Rattle.text.specs.Lay.{full, fits, over, laid, behind, Lays}
 use Rattle.text.proofs.Laying.{lays-both}

@@ -1,4 +1,4 @@
-mod Joining
+pub mod Joining
 mod Visible
 mod Parts
 pub mod Short

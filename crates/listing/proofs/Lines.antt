@@ -9,8 +9,6 @@ use lib.ListN.{length, take, length-append}
 use Rattle.reading.specs.Walk.{roomOf}
 use Rattle.rows.specs.Row.{rowOf, rowAt}
 use Rattle.rows.specs.Lookup.{rowsOf}
-use Rattle.rows.specs.declared.Row.{Row}
-use Rattle.rows.specs.declared.RowAt.{RowAt}
 use Rattle.rows.specs.declared.RowAt.the-variants.{Is, Outside}
 use Rattle.rows.proofs.Laid.{has-row}
 use Rattle.rows.proofs.Search.{rows-more}

@@ -1,8 +1,8 @@
 -- The listing of a payload, from its parts: the first line of what the walk answers, then the lines of the rows that it left. Assumes nothing.
-use Prim.Native.Nat.{ℕ, _+_, _*_, _≤_}
-use mathlib.Core.Path.{_≡_, refl, sym, ap, _∙_}
+use Prim.Native.Nat.{ℕ, _*_, _≤_}
+use mathlib.Core.Path.{_≡_, refl, ap, _∙_}
 use mathlib.Core.Bool.{false}
-use mathlib.Core.List.{List, [], _∷_, map}
+use mathlib.Core.List.{List, [], _∷_}
 use native.Mathlib.Omega.{arith}
 use lib.ListN.{length, drop, length-map}
 use Rattle.foundation.specs.BigEndian.{AreBytes}
@@ -13,8 +13,8 @@ use Rattle.reading.proofs.Bounds.{read-bound}
 use Rattle.metadata.specs.declared.Metadata.{Metadata}
 use Rattle.metadata.specs.declared.Metadata.the-variants.{Rows, Refused}
 use Rattle.metadata.specs.Metadata.{told, Read}
-use Rattle.listing.specs.Listing.{answerLine, recordLine, recordLines, listing, rowLines}
-use Rattle.listing.specs.Lines.{LaysLines, Lists, longestLine}
+use Rattle.listing.specs.Listing.{answerLine, recordLine, recordLines, rowLines}
+use Rattle.listing.specs.Lines.{LaysLines, Lists}
 use Rattle.listing.proofs.Lines.{lays-none, lays-more}
 use Rattle.listing.proofs.Records.{record-written, lines-of-records}
 

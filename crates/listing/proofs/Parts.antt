@@ -1,6 +1,6 @@
 -- The parts that a line is laid in, one behind the other, are the line. Assumes nothing.
 use Prim.Native.Nat.{ℕ, _/_, _%_, _^_}
-use mathlib.Core.Path.{_≡_, refl, sym, ap, _∙_}
+use mathlib.Core.Path.{_≡_, sym, ap}
 use mathlib.Core.List.{List, [], _∷_, _++_, append-assoc}
 use Rattle.foundation.specs.Text.{characters}
 use Rattle.rows.specs.declared.Row.{Row}

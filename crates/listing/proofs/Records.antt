@@ -1,7 +1,7 @@
 -- The lines of the rows that a reading leaves in lent numbers are the lines of its records. Assumes nothing.
 use Prim.Native.Nat.{ℕ, _/_, _%_, _≤_, min}
-use mathlib.Core.Path.{_≡_, refl, sym, ap, _∙_}
-use mathlib.Core.Bool.{Bool, false}
+use mathlib.Core.Path.{_≡_, refl, ap, _∙_}
+use mathlib.Core.Bool.{Bool}
 use mathlib.Core.List.{List, [], _∷_, _++_, map, flatMap, List·Memᴰ, List·Memᴰ·head, List·Memᴰ·tail}
 use native.Mathlib.Omega.{arith}
 use lib.ListN.{length, drop}
@@ -12,7 +12,7 @@ use Rattle.klv.proofs.Laid.{laid-first}
 use Rattle.klv.proofs.Place.{first-item}
 use Rattle.foundation.proofs.Bytes.{drop-bytes}
 use Rattle.reading.specs.Record.{Group, callers, named, Record, numbers, groupKind, groupKey, shape}
-use Rattle.reading.specs.Walk.{Outcome, accepted, refused, readingOf, roomOf}
+use Rattle.reading.specs.Walk.{accepted, readingOf, roomOf}
 use Rattle.reading.proofs.Stand.{read-stands}
 use Rattle.rows.specs.declared.Row.{Row}
 use Rattle.rows.specs.Row.{taken}

@@ -1,8 +1,8 @@
 -- How long a line is at most: a number below 10^k has at most k digits, a key is shown in at most nine bytes. Assumes nothing.
-use Prim.Native.Nat.{ℕ, zero, suc, _+_, _*_, _/_, _%_, _^_, _≤_, _<_}
-use mathlib.Core.Path.{_≡_, refl, sym, ap, _∙_}
+use Prim.Native.Nat.{ℕ, zero, suc, _*_, _/_, _^_, _≤_, _<_}
+use mathlib.Core.Path.{_≡_, refl}
 use mathlib.Core.Bool.{Bool, true, false, cond}
-use mathlib.Core.List.{List, [], _∷_, _++_}
+use mathlib.Core.List.{_++_}
 use native.Mathlib.Nat.{pow-suc}
 use native.Mathlib.Omega.{arith}
 use borrow.Author.Tests.{ltb-true, ltb-false}
@@ -18,7 +18,7 @@ use Rattle.metadata.specs.declared.Metadata.the-variants.{Rows, Refused}
 use Rattle.text.specs.Numerals.{lastDigits, decimal}
 use Rattle.text.proofs.Decimal.{length-one, length-more}
 use Rattle.text.proofs.Spelling.{length-lastDigits}
-use Rattle.listing.specs.Line.{lineOf, allVisible, shownKey, shownGroup, columns}
+use Rattle.listing.specs.Line.{allVisible, shownKey, shownGroup, columns}
 use Rattle.listing.specs.Listing.{answerLine, groupIn, headerIn, rowLine}
 use Rattle.listing.specs.Lines.{longestLine}
 

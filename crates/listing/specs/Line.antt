@@ -1,7 +1,6 @@
 -- A line of a listing, and how its columns are shown. Document 01, Cases, 12: "Columns: place, group (`-` for the caller's), key, type, size,
 -- repeat, depth, decimal. A key with a byte outside 33 to 126 is `x` and eight small hex digits." Assumes nothing: these are definitions.
 use Prim.Native.Nat.{ℕ}
-use Prim.Native.Char.{code}
 use mathlib.Core.Bool.{Bool, true, _&&_, cond}
 use mathlib.Core.List.{List, [], _∷_, _++_}
 use lib.Dec.{leb}
@@ -25,6 +24,7 @@ lineOf (word ∷ (next ∷ words)) = spaced word ++ lineOf (next ∷ words)
 abbrev pub visible : ℕ → Bool
 visible b = leb 33 b && leb b 126
 
+-- none of them is "outside 33 to 126"
 abbrev pub allVisible : List ℕ → Bool
 allVisible [] = true
 allVisible (b ∷ s) = visible b && allVisible s

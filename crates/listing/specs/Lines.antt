@@ -29,19 +29,21 @@ pub record LaysLines (lines : List (List ℕ)) (out : List ℕ) (at answer : ℕ
   pub leaves : after ≡ laidLines lines out at
   pub short : length (flatten lines) ≤ length lines * longestLine
 
--- a buffer begins with a text of so many bytes
-pub record Begins (text : List ℕ) (count : ℕ) (buffer : List ℕ) : Type 0 where
-  pub is : count ≡ length text
-  pub within : count ≤ length buffer
-  pub counts : count ≡ length (take count buffer)
-  pub holds : take count buffer ≡ text
-
 -- what listing a payload promises: the same, and the lent numbers, which are as the reading leaves them
 pub record Lists (outcome : Outcome) (old out : List ℕ) (at answer : ℕ) (new after : List ℕ) : Type 0 where
   pub is : answer ≡ behindLines (listing outcome) out at
   pub leaves : after ≡ laidLines (listing outcome) out at
   pub rows : new ≡ lent outcome old
   pub short : length (flatten (listing outcome)) ≤ (1 + roomOf (length old)) * longestLine
+
+-- ---- at the start of a buffer
+
+-- a buffer begins with a text of so many bytes
+pub record Begins (text : List ℕ) (count : ℕ) (buffer : List ℕ) : Type 0 where
+  pub is : count ≡ length text
+  pub within : count ≤ length buffer
+  pub counts : count ≡ length (take count buffer)
+  pub holds : take count buffer ≡ text
 
 -- ---- a line in the making, which is no call from outside
 

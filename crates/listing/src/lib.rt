@@ -65,6 +65,7 @@ fn put_row_at(out: &mut [u8], at: usize, rows: &[u32], n: usize) -> usize
     }
 }
 
+// Lays the line of a row.
 fn put_line(out: &mut [u8], at: usize, row: Row) -> usize
     ensures { λ r. ⌜ LaysLines (rowLine row ∷ []) (now (out .entry)) at r (now (out .exit)) ⌝ }
 {
@@ -73,6 +74,7 @@ fn put_line(out: &mut [u8], at: usize, row: Row) -> usize
     text::put_bytes(out, at, &line[..end])
 }
 
+// The smaller of two.
 fn least(a: usize, b: usize) -> usize
     ensures { λ r. ⌜ r ≡ min a b ⌝ }
 {

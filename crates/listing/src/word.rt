@@ -78,6 +78,7 @@ fn put_keys(out: &mut [u8], at: usize, row: Row) -> usize
     text::put(out, key, b' ')
 }
 
+// A group by the key that names it, or a hyphen for the caller's.
 fn put_group(out: &mut [u8], at: usize, row: Row) -> usize
     ensures { λ r. ⌜ Joins (shownGroup (groupIn row)) (now (out .entry)) at r (now (out .exit)) ⌝ }
 {
@@ -99,6 +100,7 @@ fn put_key(out: &mut [u8], at: usize, key: u32) -> usize
     text::put_hex(out, x, key as u64, 8)
 }
 
+// The four bytes of a key, the first weighing most.
 fn key_bytes(key: u32) -> [u8; 4]
     ensures { λ r. ⌜ r ≡ bytesOf 4 key ⌝ }
 {
@@ -127,6 +129,7 @@ fn all_visible(s: &[u8]) -> bool
     true
 }
 
+// Whether a byte is of 33 to 126.
 fn is_visible(b: u8) -> bool
     ensures { λ r. ⌜ r ≡ visible b ⌝ }
 {

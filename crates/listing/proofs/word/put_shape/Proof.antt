@@ -1,6 +1,6 @@
 -- `put_shape` meets its contract: three numbers one behind the other. Assumes nothing.
 use native.Mathlib.Omega.{arith}
-use Rattle.listing.proofs.Joining.{joins, joins-then}
+use Rattle.listing.proofs.Joining.{joins-then}
 use borrow.Author.Needs.{needs}
 use Rattle.listing.proofs.word.put_shape.Statement.{statement}
 use Rattle.listing.proofs.word.put_shape.Tie as tie
