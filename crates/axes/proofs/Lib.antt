@@ -1,3 +1,3 @@
-pub mod Texts
+pub mod Lengths
 pub mod ReadBack
 pub mod Cases

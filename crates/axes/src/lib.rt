@@ -24,10 +24,10 @@ pub enum Orientation {
 }
 
 // The refusal of texts that are not three ASCII characters each.
-const NO_AXES: u32 = 9;
+pub const NO_AXES: u32 = 9;
 
 // The refusal of a matrix that is not nine numbers, or has a row that names no axis.
-const NO_MATRIX: u32 = 10;
+pub const NO_MATRIX: u32 = 10;
 
 // Whether a text is three ASCII characters.
 fn is_three_ascii(text: &[u8]) -> bool

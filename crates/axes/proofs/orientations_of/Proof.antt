@@ -1,5 +1,5 @@
 -- `orientations_of` meets its contract, by what is known of each text. Assumes nothing.
-use Rattle.axes.proofs.Texts.{three-long}
+use Rattle.axes.proofs.Lengths.{three-long}
 use Rattle.axes.specs.Matrix.{orientationsOf}
 use mathlib.Core.Path.{sym, _∙_}
 use borrow.Author.Needs.{needs}
