@@ -176,14 +176,28 @@ fn by_orientations(orientations: Orientations) -> Oriented
     }
 }
 
+// A character of the text of the item at a place.
+fn character(s: &[u8], at: usize, type_at: usize, column: usize) -> u8
+    ensures { λ r. ⌜ r ≡ byteOf (firstRow (now (s .entry)) at «type_at» column) ⌝ }
+{
+    byte_of(values::element(s, at, type_at, 0, column))
+}
+
+// A number of the first row of the item at a place.
+fn number(s: &[u8], at: usize, type_at: usize, column: usize) -> f32
+    ensures { λ r. ⌜ r ≡ singleOf (firstRow (now (s .entry)) at «type_at» column) ⌝ }
+{
+    single_of(values::element(s, at, type_at, 0, column))
+}
+
 // The first three characters of the text of the item at a place.
 fn three(s: &[u8], at: usize, type_at: usize) -> [u8; 3]
     ensures { λ r. ⌜ r ≡ bytesOf (firstRow (now (s .entry)) at «type_at») 3 ⌝ }
 {
     [
-        byte_of(values::element(s, at, type_at, 0, 0)),
-        byte_of(values::element(s, at, type_at, 0, 1)),
-        byte_of(values::element(s, at, type_at, 0, 2)),
+        character(s, at, type_at, 0),
+        character(s, at, type_at, 1),
+        character(s, at, type_at, 2),
     ]
 }
 
@@ -192,15 +206,15 @@ fn nine(s: &[u8], at: usize, type_at: usize) -> [f32; 9]
     ensures { λ r. ⌜ r ≡ singlesOf (firstRow (now (s .entry)) at «type_at») 9 ⌝ }
 {
     [
-        single_of(values::element(s, at, type_at, 0, 0)),
-        single_of(values::element(s, at, type_at, 0, 1)),
-        single_of(values::element(s, at, type_at, 0, 2)),
-        single_of(values::element(s, at, type_at, 0, 3)),
-        single_of(values::element(s, at, type_at, 0, 4)),
-        single_of(values::element(s, at, type_at, 0, 5)),
-        single_of(values::element(s, at, type_at, 0, 6)),
-        single_of(values::element(s, at, type_at, 0, 7)),
-        single_of(values::element(s, at, type_at, 0, 8)),
+        number(s, at, type_at, 0),
+        number(s, at, type_at, 1),
+        number(s, at, type_at, 2),
+        number(s, at, type_at, 3),
+        number(s, at, type_at, 4),
+        number(s, at, type_at, 5),
+        number(s, at, type_at, 6),
+        number(s, at, type_at, 7),
+        number(s, at, type_at, 8),
     ]
 }
 

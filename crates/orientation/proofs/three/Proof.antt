@@ -4,36 +4,19 @@ use borrow.Author.Needs.{needs}
 use Rattle.orientation.proofs.three.Statement.{statement}
 use Rattle.orientation.proofs.three.Tie as tie
 
-element-requires : tie.Need-element-requires
-element-requires c κs = search needs
+character-requires : tie.Need-character-requires
+character-requires c κs = search needs
 
-byte-of-requires : tie.Need-byte-of-requires
-byte-of-requires c κs = search needs
+character-requires-2 : tie.Need-character-requires-2
+character-requires-2 c κs = search needs
 
-element-requires-2 : tie.Need-element-requires-2
-element-requires-2 c κs = search needs
-
-byte-of-requires-2 : tie.Need-byte-of-requires-2
-byte-of-requires-2 c κs = search needs
-
-element-requires-3 : tie.Need-element-requires-3
-element-requires-3 c κs = search needs
-
-byte-of-requires-3 : tie.Need-byte-of-requires-3
-byte-of-requires-3 c κs = search needs
+character-requires-3 : tie.Need-character-requires-3
+character-requires-3 c κs = search needs
 
 returns : tie.Need-returns
 unfolding firstOf
-returns c = simp (c .before .before .before .before .before .element .ensures, c .before .before .before .before .byte-of .ensures, c .before .before .before .element2 .ensures, c .before .before .byte-of2 .ensures, c .before .element3 .ensures, c .byte-of3 .ensures)
+returns c = simp (c .before .before .character .ensures, c .before .character2 .ensures, c .character3 .ensures)
 
 pub three-spec : {M : Type 1} → statement M
 three-spec =
-    tie.close
-    (tie.spec
-    element-requires
-    byte-of-requires
-    element-requires-2
-    byte-of-requires-2
-    element-requires-3
-    byte-of-requires-3
-    returns)
+    tie.close (tie.spec character-requires character-requires-2 character-requires-3 returns)
