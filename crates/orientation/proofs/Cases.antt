@@ -7,7 +7,6 @@ use mathlib.Core.Path.{_≡_, refl}
 use mathlib.Core.List.{List, [], _∷_, _++_}
 use lib.Ieee.{ofBits, lt}
 use Rattle.foundation.specs.Text.{characters, key}
-use Rattle.foundation.specs.Fuel.{fix, run}
 use Rattle.keys.specs.Keys.{tags, tagOf}
 use Rattle.keys.specs.Table.{found}
 use Rattle.klv.specs.Item.{firstItem}
@@ -17,7 +16,6 @@ use Rattle.elements.specs.Element.{elementOf, elementAt}
 use Rattle.values.specs.Value.{kindOf, isQuaternions, letterPlan, planOf}
 use Rattle.values.specs.At.{foundAt}
 use Rattle.rows.specs.Lookup.{rowsOf, matching, lastFrom, lookupOf}
-use Rattle.axes.specs.declared.Axes.{Axes}
 use Rattle.axes.specs.Matrix.{threeAscii, orientationsOf, entryOf}
 use Rattle.axes.specs.Back.{beyond, lettered, orientationIn}
 use Rattle.orientation.specs.declared.Oriented.{Oriented}

@@ -1,15 +1,13 @@
 -- What the columns of texts and matrices come to: three characters and nine numbers are read, and any other count is refused. Assumes nothing.
-use Prim.Native.Nat.{ℕ, zero, suc, _+_}
+use Prim.Native.Nat.{ℕ, zero, suc}
 use mathlib.Core.Path.{_≡_, refl, ap, sym, _∙_}
 use mathlib.Core.Bool.{Bool, true}
-use mathlib.Core.List.{List, [], _∷_, _++_}
+use mathlib.Core.List.{List}
 use native.Mathlib.Omega.{arith}
 use lib.Ieee.{Float}
 use lib.ListN.{length, length-append}
 use Rattle.axes.specs.declared.Orientation.{Orientation}
-use Rattle.axes.specs.declared.Orientation.the-variants as orientation
 use Rattle.axes.specs.declared.Orientations.{Orientations}
-use Rattle.axes.specs.declared.Orientations.the-variants as orientations
 use Rattle.axes.specs.Matrix.{orientationsOf}
 use Rattle.axes.specs.Back.{orientationIn}
 use Rattle.axes.proofs.Lengths.{orin-not-three, orio-not-three, not-nine}

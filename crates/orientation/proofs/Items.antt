@@ -1,7 +1,7 @@
 -- The item of a row that a lookup finds: the lookup finds only rows that the room has. Assumes nothing.
 use Prim.Native.Nat.{ℕ, _<_, _≤_}
 use mathlib.Core.Path.{_≡_, refl, ap, sym, _∙_}
-use mathlib.Core.Bool.{Bool, true, false, cond}
+use mathlib.Core.Bool.{Bool, true, false}
 use mathlib.Core.List.{List}
 use native.Mathlib.Omega.{arith}
 use lib.Dec.{leb}
@@ -13,12 +13,11 @@ use Rattle.rows.specs.declared.Row.{Row}
 use Rattle.rows.specs.declared.RowAt.{RowAt}
 use Rattle.rows.specs.declared.RowAt.the-variants.{Is, Outside}
 use Rattle.rows.specs.declared.Found.{Found}
-use Rattle.rows.specs.declared.Found.the-variants.{At, Nothing, Refused}
-use Rattle.rows.specs.Row.{rowOf, hasRow, rowAt}
+use Rattle.rows.specs.declared.Found.the-variants.{At, Refused}
+use Rattle.rows.specs.Row.{rowOf, rowAt}
 use Rattle.rows.specs.Lookup.{lookupOf}
 use Rattle.rows.proofs.Laid.{has-row}
 use Rattle.rows.proofs.Search.{Says, lookup-says, too-many}
-use Rattle.orientation.specs.declared.Item.the-variants as item
 use Rattle.orientation.specs.Group.{itemBy, itemOf}
 
 module _ (rows : List ℕ) (count groupKind groupKey k : ℕ) where

@@ -1,7 +1,7 @@
 -- The axes of a group's readings, found by lookup: its MTRX, and only where it has none its ORIN and ORIO, as the Rust's `process_map` takes them
 -- (document 01, Axes and durations; Refusal numbers, 5, 9 and 10; a value's own refusals as they come). Assumes nothing: these are definitions.
 use Prim.Native.Nat.{ℕ}
-use mathlib.Core.Bool.{Bool, true, false, cond}
+use mathlib.Core.Bool.{Bool, true, false}
 use mathlib.Core.List.{List}
 use Rattle.foundation.specs.Text.{key}
 use Rattle.keys.specs.Keys.{tagOf}

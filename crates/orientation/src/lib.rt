@@ -9,12 +9,11 @@ use values::Kind;
 use values::Read;
 use values::Shaped;
 ghost use mathlib.Core.Path.{_≡_};
-ghost use Rattle.values.specs.At.{foundAt, shapeOfFound, elementOfFound};
-ghost use Rattle.orientation.specs.Row.{formOf, byteOf, isSingle, singleOf, textBy, firstOf, bytesOf, singlesOf};
+ghost use Rattle.orientation.specs.Row.{formOf, byteOf, isSingle, singleOf, textBy, bytesOf, singlesOf};
 ghost use Rattle.orientation.specs.Group.{itemOf, told, byOrientations, byTexts, byRows, byMatrix, shapeThere, firstRow, byPair, orientationOfGroup};
 
 // What a value may serve as, by its kind.
-pub enum Form {
+enum Form {
     // one text
     Text,
     // numbers in rows
@@ -23,7 +22,7 @@ pub enum Form {
 }
 
 // How long the text of an item is.
-pub enum Text {
+enum Text {
     Long(usize),
     // its value is no text
     Other,
@@ -31,7 +30,7 @@ pub enum Text {
 }
 
 // Where an item stands that a row speaks of, and its TYPE.
-pub enum Item {
+enum Item {
     At { place: usize, type_place: usize },
     Nothing,
     Refused { number: u32, place: usize },

@@ -2,7 +2,7 @@
 use Rattle.orientation.proofs.Items.{item-by, same-row, never-outside}
 use Rattle.orientation.specs.declared.Item.the-variants as item
 use Rattle.rows.specs.declared.Row.{Row}
-use mathlib.Core.Path.{_≡_, ap, sym, _∙_}
+use mathlib.Core.Path.{ap, sym, _∙_}
 use borrow.Author.Needs.{needs}
 use Rattle.orientation.proofs.item_of.Statement.{statement}
 use Rattle.orientation.proofs.item_of.Tie as tie
