@@ -87,6 +87,22 @@ use Rattle.values.proofs.shape_at.Kinds as shape-at-kinds
 use Rattle.values.proofs.shape_at.Reads as shape-at-reads
 use Rattle.values.proofs.columns_at.Kinds as columns-at-kinds
 use Rattle.values.proofs.columns_at.Reads as columns-at-reads
+use Rattle.listing.proofs.list.Kinds as list-kinds
+use Rattle.listing.proofs.list.Reads as list-reads
+use Rattle.listing.proofs.put_answer.Kinds as put-answer-kinds
+use Rattle.listing.proofs.put_answer.Reads as put-answer-reads
+use Rattle.listing.proofs.put_rows.Kinds as put-rows-kinds
+use Rattle.listing.proofs.put_rows.Reads as put-rows-reads
+use Rattle.axes.proofs.orientations_of.Kinds as orientations-of-kinds
+use Rattle.axes.proofs.orientations_of.Reads as orientations-of-reads
+use Rattle.axes.proofs.orientations_to_matrix.Kinds as orientations-to-matrix-kinds
+use Rattle.axes.proofs.orientations_to_matrix.Reads as orientations-to-matrix-reads
+use Rattle.axes.proofs.matrix_to_orientation.Kinds as matrix-to-orientation-kinds
+use Rattle.axes.proofs.matrix_to_orientation.Reads as matrix-to-orientation-reads
+use Rattle.axes.proofs.mtrx_to_orientation.Kinds as mtrx-to-orientation-kinds
+use Rattle.axes.proofs.mtrx_to_orientation.Reads as mtrx-to-orientation-reads
+use Rattle.orientation.proofs.orientation_of_group.Kinds as orientation-of-group-kinds
+use Rattle.orientation.proofs.orientation_of_group.Reads as orientation-of-group-reads
 
 -- a promise over n lifetimes, parameters and a result settles the result
 abbrev pub OneResult : (n : ℕ) (parameters : List (PK n)) (result : RK n) → Out n parameters result → Type 0
@@ -222,3 +238,28 @@ unhex κs a x y s t p q = (p .is ∙ sym (q .is), p .leaves ∙ sym (q .leaves))
 pub piece : (κs : Lfts 1) (a : Dens κs piece-kinds.ps) (x y : resT piece-kinds.r κs .Denot) (s t : AtExit (endedOf 1 piece-kinds.ps piece-kinds.r) κs)
     → piece-reads.Learnt κs a x s → piece-reads.Learnt κs a y t → now x ≡ now y
 piece κs a x y s t p q = p ∙ sym q
+
+pub put-answer : OneAnswer 1 put-answer-kinds.ps put-answer-kinds.r put-answer-reads.Learnt (λ κs s. now (s .0))
+put-answer κs a x y s t p q = (p .is ∙ sym (q .is), p .leaves ∙ sym (q .leaves))
+
+pub put-rows : OneAnswer 2 put-rows-kinds.ps put-rows-kinds.r put-rows-reads.Learnt (λ κs s. now (s .0))
+put-rows κs a x y s t p q = (p .is ∙ sym (q .is), p .leaves ∙ sym (q .leaves))
+
+-- the lent numbers and the buffer
+pub list : OneAnswer {B = List ℕ × List ℕ} 3 list-kinds.ps list-kinds.r list-reads.Learnt (λ κs s. (now (s .1 .0), now (s .1 .1 .0)))
+list κs a x y s t p q = (p .is ∙ sym (q .is), λ i. ((p .rows ∙ sym (q .rows)) i, (p .leaves ∙ sym (q .leaves)) i))
+
+pub orientations-of : OneResult 2 orientations-of-kinds.ps orientations-of-kinds.r orientations-of-reads.Learnt
+orientations-of κs a x y s t p q = p ∙ sym q
+
+pub orientations-to-matrix : OneResult 0 orientations-to-matrix-kinds.ps orientations-to-matrix-kinds.r orientations-to-matrix-reads.Learnt
+orientations-to-matrix κs a x y s t p q = p ∙ sym q
+
+pub matrix-to-orientation : OneResult 0 matrix-to-orientation-kinds.ps matrix-to-orientation-kinds.r matrix-to-orientation-reads.Learnt
+matrix-to-orientation κs a x y s t p q = p ∙ sym q
+
+pub mtrx-to-orientation : OneResult 1 mtrx-to-orientation-kinds.ps mtrx-to-orientation-kinds.r mtrx-to-orientation-reads.Learnt
+mtrx-to-orientation κs a x y s t p q = p ∙ sym q
+
+pub orientation-of-group : OneResult 2 orientation-of-group-kinds.ps orientation-of-group-kinds.r orientation-of-group-reads.Learnt
+orientation-of-group κs a x y s t p q = p ∙ sym q
