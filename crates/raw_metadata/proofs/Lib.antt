@@ -1,0 +1,4 @@
+pub mod Answers
+pub mod Readings
+pub mod Window
+pub mod Cases
