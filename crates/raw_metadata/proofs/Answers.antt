@@ -57,10 +57,10 @@ module _ (forced : Bool) (bytes : List ℕ) (at : ℕ) (old : List ℕ) where
 -- ---- over the limit or not
 
 module _ (size from : ℕ) where
-  decided : (b : Bool) → ltb (from + 1048587) size ≡ b → cond b (here.OverLimit (from + 8) (record { at = from + 1 })) (here.More from) ≡ overLimit size from
-  decided b e = ap (λ (x : Bool). cond x (here.OverLimit (from + 8) (record { at = from + 1 })) (here.More from)) (sym e)
+  decided : (b : Bool) → ltb (from + 1048587) size ≡ b → cond b (here.OverLimit (from + 8) 1 0 (record { at = from + 1 })) (here.More from) ≡ overLimit size from
+  decided b e = ap (λ (x : Bool). cond x (here.OverLimit (from + 8) 1 0 (record { at = from + 1 })) (here.More from)) (sym e)
 
-  pub is-over : from + 1048587 < size → here.OverLimit (from + 8) (record { at = from + 1 }) ≡ overLimit size from
+  pub is-over : from + 1048587 < size → here.OverLimit (from + 8) 1 0 (record { at = from + 1 }) ≡ overLimit size from
   is-over h = decided true (lt-ltb (from + 1048587) size h)
 
   pub not-over : size ≤ from + 1048587 → here.More from ≡ overLimit size from
