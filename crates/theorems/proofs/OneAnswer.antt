@@ -103,6 +103,18 @@ use Rattle.axes.proofs.mtrx_to_orientation.Kinds as mtrx-to-orientation-kinds
 use Rattle.axes.proofs.mtrx_to_orientation.Reads as mtrx-to-orientation-reads
 use Rattle.orientation.proofs.orientation_of_group.Kinds as orientation-of-group-kinds
 use Rattle.orientation.proofs.orientation_of_group.Reads as orientation-of-group-reads
+use Rattle.raw_file.proofs.find_devc.Kinds as find-devc-kinds
+use Rattle.raw_file.proofs.find_devc.Reads as find-devc-reads
+use Rattle.raw_file.proofs.Packets.new.Kinds as packets-new-kinds
+use Rattle.raw_file.proofs.Packets.new.Reads as packets-new-reads
+use Rattle.raw_file.proofs.Packets.next.Kinds as packets-next-kinds
+use Rattle.raw_file.proofs.Packets.next.Reads as packets-next-reads
+use Rattle.raw_file.proofs.Packets.next_in.Kinds as packets-next-in-kinds
+use Rattle.raw_file.proofs.Packets.next_in.Reads as packets-next-in-reads
+use Rattle.raw_metadata.proofs.next_metadata.Kinds as next-metadata-kinds
+use Rattle.raw_metadata.proofs.next_metadata.Reads as next-metadata-reads
+use Rattle.raw_metadata.proofs.next_metadata_in.Kinds as next-metadata-in-kinds
+use Rattle.raw_metadata.proofs.next_metadata_in.Reads as next-metadata-in-reads
 
 -- a promise over n lifetimes, parameters and a result settles the result
 abbrev pub OneResult : (n : ℕ) (parameters : List (PK n)) (result : RK n) → Out n parameters result → Type 0
@@ -263,3 +275,21 @@ mtrx-to-orientation κs a x y s t p q = p ∙ sym q
 
 pub orientation-of-group : OneResult 2 orientation-of-group-kinds.ps orientation-of-group-kinds.r orientation-of-group-reads.Learnt
 orientation-of-group κs a x y s t p q = p ∙ sym q
+
+pub find-devc : OneResult 1 find-devc-kinds.ps find-devc-kinds.r find-devc-reads.Learnt
+find-devc κs a x y s t p q = p ∙ sym q
+
+pub packets-new : OneResult 0 packets-new-kinds.ps packets-new-kinds.r packets-new-reads.Learnt
+packets-new κs a x y s t p q = λ i. record { at = (p ∙ sym q) i }
+
+pub packets-next : OneResult 1 packets-next-kinds.ps packets-next-kinds.r packets-next-reads.Learnt
+packets-next κs a x y s t p q = p ∙ sym q
+
+pub packets-next-in : OneResult 1 packets-next-in-kinds.ps packets-next-in-kinds.r packets-next-in-reads.Learnt
+packets-next-in κs a x y s t p q = p ∙ sym q
+
+pub next-metadata : OneAnswer 2 next-metadata-kinds.ps next-metadata-kinds.r next-metadata-reads.Learnt (λ κs s. now (s .1 .1 .1 .0))
+next-metadata κs a x y s t p q = (p .is ∙ sym (q .is), p .rows ∙ sym (q .rows))
+
+pub next-metadata-in : OneAnswer 2 next-metadata-in-kinds.ps next-metadata-in-kinds.r next-metadata-in-reads.Learnt (λ κs s. now (s .1 .1 .1 .1 .0))
+next-metadata-in κs a x y s t p q = (p .is ∙ sym (q .is), p .rows ∙ sym (q .rows))
