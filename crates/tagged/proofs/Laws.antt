@@ -1,0 +1,137 @@
+-- The item of a group and tag, by what the header and the lookup tell; and one number, by its width. Assumes nothing.
+use Prim.Native.Nat.{ℕ, _/_, _<_, _≤_}
+use mathlib.Core.Path.{_≡_, refl, ap, sym, subst, _∙_}
+use mathlib.Core.Bool.{Bool, true, false, cond, _&&_}
+use mathlib.Core.List.{List}
+use native.Mathlib.Nat.{div-zero}
+use native.Mathlib.Omega.{arith}
+use lib.Dec.{eqb, ltb}
+use lib.ListN.{length}
+use borrow.Author.Tests.{lt-ltb, le-ltb, ltb-true, ltb-false, eq-eqb, ne-eqb}
+use Rattle.klv.specs.Item.{dataLen}
+use Rattle.klv.specs.Header.{headerAt}
+use Rattle.klv.specs.declared.KLV.{KLV}
+use Rattle.klv.specs.declared.Header.{Header}
+use Rattle.klv.specs.declared.Header.the-variants as header
+use Rattle.elements.specs.Types.{widthOf}
+use Rattle.reading.specs.Walk.{roomOf}
+use Rattle.rows.specs.Row.{rowOf, rowAt}
+use Rattle.rows.specs.Lookup.{lookupOf}
+use Rattle.rows.specs.declared.Row.{Row}
+use Rattle.rows.specs.declared.RowAt.{RowAt}
+use Rattle.rows.specs.declared.RowAt.the-variants as rowAt
+use Rattle.rows.specs.declared.Found.{Found}
+use Rattle.rows.specs.declared.Found.the-variants as row
+use Rattle.rows.proofs.Laid.{has-row}
+use Rattle.rows.proofs.Search.{Says, lookup-says, too-many}
+use Rattle.tagged.specs.Tagged.{itemBy, itemAt, itemOf, taggedOf, oneNumber}
+use Rattle.tagged.specs.declared.Tagged.{Tagged}
+use Rattle.tagged.specs.declared.Tagged.the-variants.{Is, Nothing, Refused}
+
+-- ---- at a place
+
+module _ (s : List ℕ) (place : ℕ) {at : ℕ} {read : Header} (there : at ≡ place) (is-read : read ≡ headerAt s at) where
+  -- by the header that was read
+  pub by-header : (h : Header) → read ≡ h → itemAt s place ≡ itemBy h place
+  unfolding itemAt
+  by-header h e = ap (λ (r : Header). itemBy r place) (ap (headerAt s) (sym there) ∙ sym is-read ∙ e)
+
+  module _ (h : KLV) {n : ℕ} (e : read ≡ header.Item h) (long : n ≡ dataLen h) where
+    pub empty : n ≡ 0 → itemAt s place ≡ Refused 12 place
+    empty z = by-header (header.Item h) e ∙ simp (eq-eqb (dataLen h) 0 (sym long ∙ z))
+
+    pub whole : (n ≡ 0 → ⊥) → itemAt s place ≡ Is h place
+    whole z = by-header (header.Item h) e ∙ simp (ne-eqb (dataLen h) 0 (λ (k : dataLen h ≡ 0). z (long ∙ k)))
+
+-- ---- of a group and a tag
+
+-- an item is no refusal, and is something
+not-refused : {number at place : ℕ} {h : KLV} → Refused number at ≡ Is h place → ⊥
+not-refused e = let z : _≡_ {A = ℕ} 0 1 = cc in omega arith
+
+not-nothing : {place : ℕ} {h : KLV} → Nothing ≡ Is h place → ⊥
+not-nothing e = let z : _≡_ {A = ℕ} 0 1 = cc in omega arith
+
+module _ (s rows : List ℕ) (count groupKind groupKey tag key : ℕ) where
+  abbrev asked : Tagged
+  asked = taggedOf s rows count groupKind groupKey tag key
+
+  abbrev looked : Found
+  looked = lookupOf groupKind groupKey tag key rows count
+
+  pub too-long : 1048576 < length s → asked ≡ Refused 1 0
+  unfolding taggedOf
+  too-long h = simp (lt-ltb 1048576 (length s) h)
+
+  -- by what the lookup found
+  pub by-found : length s ≤ 1048576 → {r : Found} → r ≡ looked → (f : Found) → r ≡ f → asked ≡ itemOf s rows f
+  unfolding taggedOf
+  by-found h is f e = simp (le-ltb 1048576 (length s) h) (ap (itemOf s rows) (sym is ∙ e))
+
+  -- a row that was found lies within the room
+  in-room : (n : ℕ) → looked ≡ row.At n → (b : Bool) → ltb (roomOf (length rows)) count ≡ b → n < roomOf (length rows)
+  in-room n e true t =
+      let over : looked ≡ row.Refused 5 0 = too-many groupKind groupKey tag key rows count (ltb-true (roomOf (length rows)) count t) in
+      let z : _≡_ {A = ℕ} 0 1 = cc in
+      absurd (omega arith)
+  in-room n e false t =
+      let fits : count ≤ roomOf (length rows) = ltb-false (roomOf (length rows)) count t in
+      let said : Says groupKind groupKey tag key rows (row.At n) count = subst (λ (f : Found). Says groupKind groupKey tag key rows f count) e (lookup-says groupKind groupKey tag key rows count fits) in
+      let within : n < count = said .within in
+      omega arith
+
+  pub row-there : (n : ℕ) {r : Found} → r ≡ looked → r ≡ row.At n → rowAt rows n ≡ rowAt.Is (rowOf rows n)
+  unfolding rowAt
+  row-there n is e = simp (has-row rows n (in-room n (sym is ∙ e) (ltb (roomOf (length rows)) count) refl))
+
+  -- and is that row
+  pub row-is : (n : ℕ) {r : Found} → r ≡ looked → r ≡ row.At n → {at : RowAt} → at ≡ rowAt rows n → {q : Row} → at ≡ rowAt.Is q → q ≡ rowOf rows n
+  row-is n is e there q = let here = row-there n is e in cc
+
+  pub row-not-outside : (n : ℕ) {r : Found} → r ≡ looked → r ≡ row.At n → {at : RowAt} → at ≡ rowAt rows n → at ≡ rowAt.Outside → ⊥
+  row-not-outside n is e there q = let here = row-there n is e in let z : _≡_ {A = ℕ} 0 1 = cc in omega arith
+
+  -- THE HEADER of what is answered stands at its place
+  module _ (h : KLV) (place : ℕ) where
+    length-there : (k : KLV) (p : ℕ) → headerAt s p ≡ header.Item k → (b : Bool) → cond b (Refused 12 p) (Is k p) ≡ Is h place → headerAt s place ≡ header.Item h
+    length-there k p there true e = absurd (not-refused e)
+    length-there k p there false e =
+        let same : k ≡ h = cc in
+        let here : p ≡ place = cc in
+        ap (headerAt s) (sym here) ∙ there ∙ ap header.Item same
+
+    header-there : (p : ℕ) (r : Header) → headerAt s p ≡ r → itemBy r p ≡ Is h place → headerAt s place ≡ header.Item h
+    header-there p header.Short there e = absurd (not-refused e)
+    header-there p header.Past there e = absurd (not-refused e)
+    header-there p (header.Item k) there e = length-there k p there (eqb (dataLen k) 0) e
+
+    found-there : (f : Found) → itemOf s rows f ≡ Is h place → headerAt s place ≡ header.Item h
+    unfolding itemAt
+    found-there (row.At n) e = header-there (rowOf rows n .place) (headerAt s (rowOf rows n .place)) refl e
+    found-there row.Nothing e = absurd (not-nothing e)
+    found-there (row.Refused number at) e = absurd (not-refused e)
+
+    limit-there : (b : Bool) → cond b (Refused 1 0) (itemOf s rows looked) ≡ Is h place → headerAt s place ≡ header.Item h
+    limit-there true e = absurd (not-refused e)
+    limit-there false e = found-there looked e
+
+    pub item-there : {r : Tagged} → r ≡ asked → r ≡ Is h place → headerAt s place ≡ header.Item h
+    unfolding taggedOf
+    item-there is e = limit-there (ltb 1048576 (length s)) (sym is ∙ e)
+
+-- ---- one number
+
+-- by the quotient, where the letter is the header's and the repeat is 1
+pub by-quotient : (h : KLV) (letter : ℕ) {width size : ℕ} → width ≡ widthOf letter → size ≡ h .size → h .«data_type» ≡ letter → h .repeat ≡ 1
+    → oneNumber h letter ≡ eqb (size / width) 1
+unfolding oneNumber
+by-quotient h letter e f a b = simp (eq-eqb (h .«data_type») letter a, eq-eqb (h .repeat) 1 b) (cc)
+
+pub no-width : (h : KLV) (letter : ℕ) → widthOf letter ≡ 0 → oneNumber h letter ≡ false
+unfolding oneNumber
+no-width h letter e = none (eqb (h .«data_type») letter) (eqb (h .repeat) 1) (ap (λ (w : ℕ). eqb (h .size / w) 1) e ∙ ap (λ (n : ℕ). eqb n 1) (div-zero (h .size)))
+  where
+    none : (a b : Bool) {d : Bool} → d ≡ false → a && (b && d) ≡ false
+    none true true e = e
+    none true false e = refl
+    none false b e = refl

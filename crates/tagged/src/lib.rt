@@ -1,0 +1,106 @@
+// The item of a group and tag, found through rows: its header, and where it stands in the payload.
+use klv::Cursor;
+use klv::Header;
+use klv::KLV;
+use rows::Found;
+use rows::Row;
+use rows::RowAt;
+ghost use mathlib.Core.Path.{_≡_};
+ghost use Rattle.tagged.specs.Tagged.{itemAt, taggedOf, oneNumber};
+
+// What a group has of a tag.
+pub enum Tagged {
+    // the item of the last such row
+    Is { klv: KLV, place: u32 },
+    Nothing,
+    Refused { number: u32, place: usize },
+}
+
+// The refusals of a payload over the limit, of an item that runs past the end, and of a place without an item.
+const TOO_LONG: u32 = 1;
+
+const PAST_END: u32 = 2;
+
+const NO_ITEM: u32 = 12;
+
+// The item at a place that a row names.
+fn item_at(s: &[u8], place: u32) -> Tagged
+    ensures { λ r. ⌜ r ≡ itemAt (now (s .entry)) place ⌝ }
+{
+    let at = place as usize;
+    match Cursor::new(at).parse_header(s) {
+        Header::Short => Tagged::Refused {
+            number: NO_ITEM,
+            place: at,
+        },
+        Header::Past => Tagged::Refused {
+            number: PAST_END,
+            place: at,
+        },
+        Header::Item(klv) => {
+            if klv.data_len() == 0 {
+                return Tagged::Refused {
+                    number: NO_ITEM,
+                    place: at,
+                };
+            }
+            Tagged::Is { klv, place }
+        }
+    }
+}
+
+// The item of the last of the first `count` rows that is of a group and a tag, and under tag 0 of a key.
+pub fn tagged_item(
+    s: &[u8],
+    rows: &[u32],
+    count: usize,
+    group_kind: u32,
+    group_key: u32,
+    tag: u32,
+    key: u32,
+) -> Tagged
+    ensures { λ r. ⌜ r ≡ taggedOf (now (s .entry)) (now (rows .entry)) count «group_kind» «group_key» tag key ⌝ }
+{
+    if values::LIMIT < s.len() {
+        return Tagged::Refused {
+            number: TOO_LONG,
+            place: 0,
+        };
+    }
+    match rows::lookup(rows, count, group_kind, group_key, tag, key) {
+        Found::Refused { number, place } => Tagged::Refused { number, place },
+        Found::Nothing => Tagged::Nothing,
+        Found::At(n) => {
+            let RowAt::Is(row) = rows::row_at(rows, n) else {
+                return Tagged::Nothing;
+            };
+            item_at(s, row.place)
+        }
+    }
+}
+
+fn wide(size: u8) -> usize
+    ensures { λ r. ⌜ r ≡ size ⌝ }
+{
+    size as usize
+}
+
+// Whether the value under a header is one number of a letter.
+pub fn is_one_number(klv: KLV, letter: u8) -> bool
+    ensures { λ r. ⌜ r ≡ oneNumber klv letter ⌝ }
+{
+    let width = elements::width(letter);
+    if klv.data_type != letter {
+        return false;
+    }
+    if klv.repeat != 1 {
+        return false;
+    }
+    if width == 0 {
+        return false;
+    }
+    if wide(klv.size) / width != 1 {
+        return false;
+    }
+    true
+}
