@@ -1,0 +1,21 @@
+-- A quaternion scaled. Document 01, Values: "four numbers w x y z ..; scaled in f64 ..; x is negated in 16 bits first, so -32,768 stays -32,768."
+-- Assumes nothing: these are definitions.
+use Prim.Native.Nat.{ℕ, suc}
+use mathlib.Core.Bool.{cond}
+use lib.Dec.{eqb}
+use lib.IntN.{ℤ, pos, negsuc, negℤ}
+use lib.Ieee.{Float, binary64, div, ofInt}
+use Rattle.quaternions.specs.declared.Quaternion.{Quaternion}
+
+-- 0 less x in 16 bits: 32,768 is one more than they hold, and wraps to -32,768
+unfoldable pub negated16 : ℤ → ℤ
+negated16 (pos n) = negℤ (pos n)
+negated16 (negsuc n) = cond (eqb n 32767) (negsuc n) (pos (suc n))
+
+-- a whole number over the scale: an exact cast, and one division in f64
+abbrev pub over : Float → ℤ → Float
+over scale n = div binary64 (ofInt binary64 n) scale
+
+-- THE QUATERNION of w x y z over the scale
+unfoldable pub scaledBy : Float → ℤ → ℤ → ℤ → ℤ → Quaternion
+scaledBy scale w x y z = record { w = over scale w; x = over scale (negated16 x); y = over scale y; z = over scale z }
