@@ -2,16 +2,13 @@
 use Prim.Native.Nat.{ℕ}
 use Prim.Native.Char.{code}
 use mathlib.Core.Path.{_≡_, refl, ap, sym, subst, _∙_}
-use mathlib.Core.Bool.{Bool, true, false, cond, _&&_, _||_}
+use mathlib.Core.Bool.{Bool, true, false, cond}
 use mathlib.Core.List.{List}
-use lib.Dec.{eqb}
 use lib.IntN.{ℤ}
 use lib.Ieee.{Float}
-use borrow.Author.Tests.{eqb-true}
 use Rattle.foundation.specs.BigEndian.{AreBytes}
 use Rattle.foundation.specs.Text.{key}
 use Rattle.klv.specs.declared.KLV.{KLV}
-use Rattle.elements.specs.Types.{widthOf}
 use Rattle.elements.specs.declared.Element.{Element}
 use Rattle.values.specs.Value.{isQuaternions}
 use Rattle.values.specs.declared.Read.{Read}
@@ -54,20 +51,6 @@ module _ (s : List ℕ) (at row : ℕ) (by : Float) where
 -- by each of them
 pub same-four : (by : Float) {w w' x x' y y' z z' : ℤ} → w ≡ w' → x ≡ x' → y ≡ y' → z ≡ z' → scaledBy by w x y z ≡ scaledBy by w' x' y' z'
 same-four by a b c d = λ i. scaledBy by (a i) (b i) (c i) (d i)
-
--- ---- the letter s
-
-first : (a b : Bool) → a && b ≡ true → a ≡ true
-first true b e = refl
-first false b e = e
-
-pub quaternions-letter : (h : KLV) → isQuaternions h ≡ true → h .«data_type» ≡ code "s"
-unfolding isQuaternions
-quaternions-letter h e = eqb-true (h .«data_type») (code "s") (first (eqb (h .«data_type») (code "s")) _ e)
-
-pub number-letter : (h : KLV) → oneNumber h (code "s") ≡ true → h .«data_type» ≡ code "s"
-unfolding oneNumber
-number-letter h e = eqb-true (h .«data_type») (code "s") (first (eqb (h .«data_type») (code "s")) _ e)
 
 -- ---- of a group
 

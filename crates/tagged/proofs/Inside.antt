@@ -22,6 +22,12 @@ use Rattle.values.specs.declared.Read.the-variants as read
 use Rattle.values.specs.Value.{Value, Outcome, readable, refused, wanting, placed, gridded, numbers, isQuaternions, quaternions, planOf, valueBy, valueOf}
 use Rattle.values.specs.At.{Named, named, bad, typeFor, Found, found, stopped, wholeIf, foundBy, foundAt, elementIn, elementOfFound}
 use Rattle.tagged.specs.Number.{Held}
+use Rattle.tagged.proofs.Laws.{first-holds}
+
+-- the letter of quaternions is s
+pub quaternions-letter : (h : KLV) → isQuaternions h ≡ true → h .«data_type» ≡ code "s"
+unfolding isQuaternions
+quaternions-letter h e = eqb-true (h .«data_type») (code "s") (first-holds (eqb (h .«data_type») (code "s")) (eqb (h .key) (key "CORI") || eqb (h .key) (key "IORI")) e)
 
 module _ (Q : Element → Type 0) (at row column : ℕ) where
   -- of a grid
@@ -42,18 +48,9 @@ module _ (Q : Element → Type 0) (at row column : ℕ) where
 
   -- of a header of numbers
   module _ (h : KLV) (wide : widthOf (h .«data_type») ≡ 0 → ⊥) (payload : List ℕ) (held : (k : ℕ) → Q (elementAt payload k (h .«data_type»))) (type : List ℕ) where
-    -- the letter of quaternions is s
-    its-letter : isQuaternions h ≡ true → h .«data_type» ≡ code "s"
-    unfolding isQuaternions
-    its-letter e = eqb-true (h .«data_type») (code "s") (first (eqb (h .«data_type») (code "s")) (eqb (h .key) (key "CORI") || eqb (h .key) (key "IORI")) e)
-      where
-        first : (a b : Bool) → a && b ≡ true → a ≡ true
-        first true b e = refl
-        first false b e = e
-
     value-held : (b : Bool) → isQuaternions h ≡ b → Held Q (elementIn at (valueOf h payload type) row column)
     unfolding planOf
-    value-held true e = rw e (grid-held (quaternions h) payload (λ k. subst (λ (l : ℕ). Q (elementAt payload k l)) (its-letter e) (held k)))
+    value-held true e = rw e (grid-held (quaternions h) payload (λ k. subst (λ (l : ℕ). Q (elementAt payload k l)) (quaternions-letter h e) (held k)))
     value-held false e = rw (e, ne-eqb (widthOf (h .«data_type»)) 0 wide) (grid-held (numbers h) payload held)
 
 -- at a place

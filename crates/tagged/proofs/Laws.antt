@@ -7,7 +7,7 @@ use native.Mathlib.Nat.{div-zero}
 use native.Mathlib.Omega.{arith}
 use lib.Dec.{eqb, ltb}
 use lib.ListN.{length}
-use borrow.Author.Tests.{lt-ltb, le-ltb, ltb-true, ltb-false, eq-eqb, ne-eqb}
+use borrow.Author.Tests.{lt-ltb, le-ltb, ltb-true, ltb-false, eqb-true, eq-eqb, ne-eqb}
 use Rattle.klv.specs.Item.{dataLen}
 use Rattle.klv.specs.Header.{headerAt}
 use Rattle.klv.specs.declared.KLV.{KLV}
@@ -126,6 +126,16 @@ pub by-quotient : (h : KLV) (letter : ℕ) {width size : ℕ} → width ≡ widt
     → oneNumber h letter ≡ eqb (size / width) 1
 unfolding oneNumber
 by-quotient h letter e f a b = simp (eq-eqb (h .«data_type») letter a, eq-eqb (h .repeat) 1 b) (cc)
+
+-- the first of two tests that both hold
+pub first-holds : (a b : Bool) → a && b ≡ true → a ≡ true
+first-holds true b e = refl
+first-holds false b e = e
+
+-- one number of a letter is of that letter
+pub number-letter : (h : KLV) (letter : ℕ) → oneNumber h letter ≡ true → h .«data_type» ≡ letter
+unfolding oneNumber
+number-letter h letter e = eqb-true (h .«data_type») letter (first-holds (eqb (h .«data_type») letter) (eqb (h .repeat) 1 && eqb (h .size / widthOf letter) 1) e)
 
 pub no-width : (h : KLV) (letter : ℕ) → widthOf letter ≡ 0 → oneNumber h letter ≡ false
 unfolding oneNumber

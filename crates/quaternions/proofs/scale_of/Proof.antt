@@ -1,4 +1,5 @@
 -- `scale_of` meets its contract: one number of the letter s, or the usual scale. Assumes nothing.
+use Prim.Native.Char.{code}
 use mathlib.Core.Path.{sym, ap, _∙_}
 use lib.IntN.{ℤ}
 use lib.Ieee.{binary64, ofInt, ofBits}
@@ -9,7 +10,8 @@ use Rattle.foundation.specs.Text.{key}
 use Rattle.tagged.specs.declared.Tagged.the-variants as tagged
 use Rattle.quaternions.specs.declared.Number.the-variants as number
 use Rattle.quaternions.specs.declared.Scale.the-variants as scale
-use Rattle.quaternions.proofs.Laws.{scale-by, not-one, one, halves, number-letter}
+use Rattle.tagged.proofs.Laws.{number-letter}
+use Rattle.quaternions.proofs.Laws.{scale-by, not-one, one, halves}
 use borrow.Author.Needs.{needs}
 use Rattle.quaternions.proofs.scale_of.Statement.{statement}
 use Rattle.quaternions.proofs.scale_of.Tie as tie
@@ -43,7 +45,7 @@ number-at-requires c κs =
     let a = c .before .before .before .before .before .before .before .before .args in
     let is = c .before .is-one-number in
     halves (a .s .now) (a .rows .now) (a .count) (a .group-kind) (a .group-key) 4 (key "SCAL") _ _ (c .before .before .before .before .before .tagged-item .ensures) (c .before .before .before .klv .given .1) (λ i. c .before .before .before .before .before .before .before .shared-slice-known .given i .fits)
-    (number-letter _ (sym (is .ensures) ∙ not-false (is .result) (c .if1 .left)))
+    (number-letter _ (code "s") (sym (is .ensures) ∙ not-false (is .result) (c .if1 .left)))
 
 enum-known-number-2 : tie.Need-enum-known-number-2
 enum-known-number-2 c = search needs

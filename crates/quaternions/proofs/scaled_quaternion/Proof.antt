@@ -3,7 +3,8 @@ use mathlib.Core.Path.{sym, ap, _∙_}
 use borrow.Author.Tests.{not-true, not-false}
 use Rattle.tagged.specs.declared.Tagged.the-variants as tagged
 use Rattle.quaternions.specs.declared.Scale.the-variants as scale
-use Rattle.quaternions.proofs.Laws.{row-by, no-quaternions, scaled-by, halves, quaternions-letter}
+use Rattle.tagged.proofs.Inside.{quaternions-letter}
+use Rattle.quaternions.proofs.Laws.{row-by, no-quaternions, scaled-by, halves}
 use borrow.Author.Needs.{needs}
 use Rattle.quaternions.proofs.scaled_quaternion.Statement.{statement}
 use Rattle.quaternions.proofs.scaled_quaternion.Tie as tie
