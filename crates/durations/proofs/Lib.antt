@@ -4,3 +4,4 @@ pub mod Steps
 pub mod Sizes
 pub mod Ends
 pub mod SoFar
+mod Cases

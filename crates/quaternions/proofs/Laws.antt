@@ -1,7 +1,7 @@
 -- The scaled quaternion of a row, by what was found and read: a case for each return of the code. Assumes nothing.
 use Prim.Native.Nat.{ℕ}
 use Prim.Native.Char.{code}
-use mathlib.Core.Path.{_≡_, refl, ap, sym, subst, _∙_}
+use mathlib.Core.Path.{_≡_, ap, sym, subst, _∙_}
 use mathlib.Core.Bool.{Bool, true, false, cond}
 use mathlib.Core.List.{List}
 use lib.IntN.{ℤ}
@@ -24,7 +24,6 @@ use Rattle.quaternions.specs.Scaled.{readAt, numberOf, numberAt, usual, 
 use Rattle.quaternions.specs.Ready.{Halves}
 use Rattle.quaternions.specs.declared.Number.{Number}
 use Rattle.quaternions.specs.declared.Scale.{Scale}
-use Rattle.quaternions.specs.declared.ScaledRow.{ScaledRow}
 use Rattle.quaternions.specs.declared.ScaledRow.the-variants.{Nothing}
 
 -- ---- one number

@@ -1,6 +1,6 @@
 -- A quaternion scaled. Document 01, Values: "four numbers w x y z ..; scaled in f64 ..; x is negated in 16 bits first, so -32,768 stays -32,768."
 -- Assumes nothing: these are definitions.
-use Prim.Native.Nat.{ℕ, suc}
+use Prim.Native.Nat.{suc}
 use mathlib.Core.Bool.{cond}
 use lib.Dec.{eqb}
 use lib.IntN.{ℤ, pos, negsuc, negℤ}

@@ -1,11 +1,11 @@
 -- The elements of the value under a header of numbers are read with the header's own letter, out of the item's payload. Assumes nothing.
 use Prim.Native.Nat.{ℕ, _+_, _*_}
 use Prim.Native.Char.{code}
-use mathlib.Core.Path.{_≡_, refl, ap, sym, subst, _∙_}
-use mathlib.Core.Bool.{Bool, true, false, cond, not, _&&_, _||_}
+use mathlib.Core.Path.{_≡_, refl, sym, subst}
+use mathlib.Core.Bool.{Bool, true, false, cond, _&&_, _||_}
 use mathlib.Core.List.{List, [], _∷_}
 use lib.Dec.{eqb, leb, ltb}
-use lib.ListN.{length, take, drop}
+use lib.ListN.{length, drop}
 use borrow.Author.Tests.{eqb-true, ne-eqb}
 use Rattle.foundation.specs.Text.{key}
 use Rattle.klv.specs.Item.{First, item, firstItem, payloadAt, nextAt}
@@ -19,8 +19,8 @@ use Rattle.elements.specs.Element.{elementAt}
 use Rattle.values.specs.declared.grid.Grid.{Grid}
 use Rattle.values.specs.declared.Read.{Read}
 use Rattle.values.specs.declared.Read.the-variants as read
-use Rattle.values.specs.Value.{Value, Outcome, readable, refused, wanting, placed, gridded, numbers, isQuaternions, quaternions, planOf, valueBy, valueOf}
-use Rattle.values.specs.At.{Named, named, bad, typeFor, Found, found, stopped, wholeIf, foundBy, foundAt, elementIn, elementOfFound}
+use Rattle.values.specs.Value.{Value, readable, refused, placed, gridded, numbers, isQuaternions, quaternions, planOf, valueOf}
+use Rattle.values.specs.At.{Named, named, bad, typeFor, Found, stopped, wholeIf, foundBy, foundAt, elementIn, elementOfFound}
 use Rattle.tagged.specs.Number.{Held}
 use Rattle.tagged.proofs.Laws.{first-holds}
 

@@ -1,6 +1,5 @@
 -- `number_at` meets its contract: the element, as it was read, or its refusal. Assumes nothing.
 use mathlib.Core.Path.{sym, ap, _∙_}
-use lib.IntN.{ℤ}
 use mir.Syntax.{w16}
 use mir.ValLaws.{toZ-ofZ}
 use Rattle.values.specs.declared.Read.the-variants as read

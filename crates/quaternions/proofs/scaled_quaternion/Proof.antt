@@ -1,5 +1,5 @@
 -- `scaled_quaternion` meets its contract: by the data that were found, and the scale. Assumes nothing.
-use mathlib.Core.Path.{sym, ap, _∙_}
+use mathlib.Core.Path.{sym, _∙_}
 use borrow.Author.Tests.{not-true, not-false}
 use Rattle.tagged.specs.declared.Tagged.the-variants as tagged
 use Rattle.quaternions.specs.declared.Scale.the-variants as scale
