@@ -1,14 +1,14 @@
 #!/bin/sh
-# Asks the built oracle and a command the same new questions and compares: compare.sh SEED TIMES COMMAND [WORD ..]
-# The command is our program, as `../gpmf replay`. Exit 1 at a difference, with the first ten questions whose answers differ.
+# Asks the built oracle and a program of ours the same new questions and compares: compare.sh SEED TIMES PROGRAM COMMAND [WORD ..]
+# PROGRAM is `replay` or `replay_packets`, and COMMAND runs it, as `./gpmf replay`. Exit 1 at a difference, with the first ten questions whose answers differ.
 set -eu
-[ $# -ge 3 ] || { echo "usage: $0 SEED TIMES COMMAND [WORD ..]" >&2; exit 2; }
+[ $# -ge 4 ] || { echo "usage: $0 SEED TIMES PROGRAM COMMAND [WORD ..]" >&2; exit 2; }
 here=$(cd "$(dirname "$0")" && pwd)
-seed=$1 times=$2
-shift 2
+seed=$1 times=$2 program=$3
+shift 3
 room=$(mktemp -d)
 trap 'rm -rf "$room"' EXIT
-"$here/questions.py" --seed "$seed" --times "$times" | grep -v '^$' > "$room/questions" # an empty line has no answer
+"$here/questions.py" --seed "$seed" --times "$times" "$program" | grep -v '^$' > "$room/questions" # an empty line has no answer
 "$here/target/release/gpmf-oracle" < "$room/questions" > "$room/oracle"
 "$@" < "$room/questions" > "$room/ours"
 if cmp -s "$room/oracle" "$room/ours"; then

@@ -1,5 +1,5 @@
 #!/usr/bin/env python3
-"""questions.py [--seed N] [--times N] [KIND ..]: questions for the oracle and for our program `replay`, one a line (README.md).
+"""questions.py [--seed N] [--times N] [KIND ..]: questions for the oracle and for our programs `replay` and `replay_packets`, one a line (README.md).
 
 All inputs are made up. Each kind draws from a generator of its own, started by the seed and the kind's name, so a new kind
 leaves the questions of the others as they are. --times repeats the random part: 1 for the stored list, more for a long run.
@@ -7,6 +7,7 @@ The seed and the number of questions of each kind go to standard error."""
 import argparse
 import itertools
 import random
+import struct
 import sys
 
 GROUP_KEYS = "GYRO ACCL GRAV MAGN CORI IORI SHUT GPS5 FASC MWET AALP WNDM UNIF WRGB WBAL ISOE".split()
@@ -380,6 +381,104 @@ def last_items(draw, times):
     return (f"last {shown(payload)}" for payload in payloads(draw, times))
 
 
+# ---- axes, quaternions, stamps, averages, raw files
+
+SIGNED_ORDERS = ["".join(c.lower() if small >> i & 1 else c for i, c in enumerate(order)) for order in itertools.permutations("XYZ") for small in range(8)]
+
+
+def matrices(draw, times):
+    """All 48 x 48 signed orders; other letters, the same letter twice, signs and blanks; lengths that differ (equal ones other than 3: DIFFERENCES, 18)."""
+    pairs = [(a, b) for a in SIGNED_ORDERS for b in SIGNED_ORDERS]
+    letters = "XYZxyzAa@[`{0 \0\x7f"
+    pairs += [("".join(draw.choices(letters, k=3)), "".join(draw.choices(letters, k=3))) for _ in range(300 * times)]
+    pairs += [("", "XYZ"), ("XYZ", ""), ("", ""), ("XY", "XYZ"), ("XYZ", "XYZX"), ("X", "XY")]
+    return (f"matrix {shown(a.encode())} {shown(b.encode())}" for a, b in pairs)
+
+
+SINGLES = [0, 0x80000000, 0x3F000000, 0x3F000001, 0x3EFFFFFF, 0xBF000000, 0xBF000001, 0xBEFFFFFF, 0x3F800000, 0xBF800000, 0x7F800000, 0xFF800000, 0x7FC00000, 0xFFC00001, 1]
+
+
+def backs(draw, times):
+    """Nine f32 of 0.5, its neighbours, signs, infinities and NaNs; random ones; 0 to 12 numbers."""
+    lists = [[draw.choice(SINGLES) for _ in range(9)] for _ in range(600 * times)]
+    lists += [[draw.choice((0, 0x3F800000, 0xBF800000)) for _ in range(9)] for _ in range(200 * times)]
+    lists += [[draw.randrange(2**32) for _ in range(9)] for _ in range(100 * times)]
+    lists += [[0x3F800000] * count for count in range(13)]
+    return (f"back {shown(b''.join(n.to_bytes(4, 'big') for n in numbers))}" for numbers in lists)
+
+
+def cut_files(draw, times):
+    """Files of the letters of DEVC, of DEVC at all small distances and at the borders of blocks, and of packets."""
+    for length in range(4 if times == 1 else 6):
+        for letters in itertools.product((b"DEVC", b"D", b"EVC", b"12345"), repeat=length):
+            yield b"".join(letters)
+    for between in range(16):
+        for behind in (0, 4, 5, 9):
+            yield b"DEVC" + b"x" * between + b"DEVC" + b"y" * behind
+    for place in range(20, 420, 3 if times == 1 else 1):
+        yield b"x" * place + b"DEVC12345"
+    for _ in range(200 * times):
+        yield b"".join(draw.choice((b"DEVC", b"DEV", b"D", b"C", b"1234", draw.randbytes(draw.randrange(9)))) for _ in range(draw.randrange(1, 40)))
+
+
+def cuts(draw, times):
+    return (f"cuts {shown(file)}" for file in cut_files(draw, times))
+
+
+def stream(items):
+    """A container of items."""
+    payload = b"".join(items)
+    return header(0, 1, len(payload), b"STRM") + payload if len(payload) < 65536 else b""
+
+
+def quaternion_packets(draw, times):
+    """CORI and IORI streams with and without a SCAL, one before or behind another, of each type; x of -32,768; scales of 0 and below."""
+    for _ in range(300 * times):
+        streams = []
+        for _ in range(draw.choice((1, 1, 2, 3))):
+            count = draw.randrange(1, 4)
+            numbers = b"".join(draw.choice((b"\x80\0", b"\x80\1", b"\x7f\xff", b"\0\0", draw.randbytes(2))) for _ in range(4 * count))
+            data = item(draw.choice((b"CORI", b"IORI")), draw.choice(b"sssssS"), 8, count, numbers)
+            scale = draw.choice((b"", b"", one(b"SCAL", ord("s"), draw.choice((b"\x7f\xff", b"\0\0", b"\0\3", b"\xff\xfe", draw.randbytes(2)))),
+                                 one(b"SCAL", ord("l"), draw.randbytes(4)), item(b"SCAL", ord("s"), 2, 2, draw.randbytes(4)), one(b"SCAL", ord("S"), draw.randbytes(2))))
+            streams.append(stream([scale, data]))
+        yield b"".join(streams)
+
+
+def quaternions_scaled(draw, times):
+    return (f"quat {shown(payload)}" for payload in quaternion_packets(draw, times))
+
+
+def stamped_packets(draw, times):
+    """GYRO streams with STMP and TICK of each shape, in one stream or two, readable dates, and none."""
+    def clock():
+        return draw.choice((b"", one(b"STMP", ord("J"), draw.randbytes(8)[1:].rjust(8, b"\0")), one(b"STMP", ord("L"), draw.randbytes(4)), item(b"STMP", ord("J"), 8, 2, bytes(16)),
+                            one(b"STMP", ord("U"), draw.choice((b"240229120000.000", b"230229120000.000", b"700101000000.000"))), one(b"STMP", ord("j"), bytes(8)),
+                            one(b"TICK", ord("L"), draw.randbytes(4)), one(b"TICK", ord("l"), draw.randbytes(4)), item(b"TICK", ord("L"), 4, 2, draw.randbytes(8)), one(b"TICK", ord("J"), bytes(8))))
+    for _ in range(400 * times):
+        yield b"".join(stream([clock(), clock(), item(b"GYRO", ord("s"), 6, 1, draw.randbytes(6))]) for _ in range(draw.choice((1, 1, 2))))
+
+
+def stamps(draw, times):
+    return (f"stamp {draw.choice((b'GYRO', b'GYRO', b'ACCL')).hex()} {shown(payload)}" for payload in stamped_packets(draw, times))
+
+
+def averages(draw, times):
+    """Lists of packets: counts of 0 and more, stamps that rise, stand still and fall, some missing; durations of 0, below it and of all sizes."""
+    for _ in range(500 * times):
+        stamp, words, last = draw.randrange(2**40), [], 0.0
+        for _ in range(draw.choice((0, 1, 2, 2, 3, 4, 6, 12, 40))):
+            stamp = max(0, min(2**42 - 1, stamp + draw.choice((1_000_000, 1_001_001, 0, -5, draw.randrange(-10**6, 10**7)))))
+            stamped = draw.random() < 0.7
+            duration = draw.choice((1001.0, 1000.0, 1001.0, 0.0, -3.5, draw.random() * 2000, draw.random() * 1e300, 5e-324))
+            missing = int(last > 1e-3 and last < 1e9 and draw.random() < 0.15)  # else the Rust's own sum of times may not tell
+            words.append(f"{draw.choice((0, 1, 198, 200, draw.randrange(2000)))}:{stamp if stamped else '-'}:{struct.pack('>d', duration).hex()}:{missing}")
+            last = duration if stamped else last
+            if last > 1e12:
+                break
+        yield " ".join(["average", *words])
+
+
 def no_questions(_):
     """Lines that are no question; the empty one has no answer."""
     yield from ("header", "header ", "header 0", "header 0 ", "header 0 0", "header 0 0g", "header 0 0G", "header 0 4A", "header 0 00 ")
@@ -391,7 +490,7 @@ def no_questions(_):
     yield from ("bogus", " ", "-", "0", "unknown", "ok", "\t", "header\t0\t00", "\xe9", "tag GYRO", "")
 
 
-KINDS = {
+REPLAY = {
     "header": lambda draw, times: [
         *short_payloads(draw), *whole_and_short(draw), *limits(draw), *far_places(draw), *random_headers(draw, times)],
     "tag": lambda draw, times: [f"tag {key.hex()}" for key in keys(draw, times)],
@@ -407,18 +506,21 @@ KINDS = {
     "last": last_items,
     "none": lambda draw, times: no_questions(draw),
 }
+REPLAY_PACKETS = {"matrix": matrices, "back": backs, "cuts": cuts, "quat": quaternions_scaled, "stamp": stamps, "average": averages}
+LISTS = {"replay": REPLAY, "replay_packets": REPLAY_PACKETS}
+KINDS = {**REPLAY, **REPLAY_PACKETS}
 
 
 def main():
     ask = argparse.ArgumentParser(description=__doc__, formatter_class=argparse.RawDescriptionHelpFormatter)
     ask.add_argument("--seed", type=int, default=1)
     ask.add_argument("--times", type=int, default=1)
-    ask.add_argument("kinds", nargs="*", metavar="KIND", help=f"some of {' '.join(KINDS)}; all of them where none is named")
+    ask.add_argument("kinds", nargs="+", metavar="KIND", help=f"some of {' '.join(KINDS)}, or a program's name for all of its own")
     asked = ask.parse_args()
-    for unknown in set(asked.kinds) - set(KINDS):
+    for unknown in set(asked.kinds) - set(KINDS) - set(LISTS):
         ask.error(f"no kind {unknown}")
     said = [f"seed {asked.seed}"]
-    for kind in asked.kinds or KINDS:
+    for kind in [kind for name in asked.kinds for kind in LISTS.get(name, [name])]:
         made = KINDS[kind](random.Random(f"{asked.seed} {kind}"), asked.times)
         questions = list(dict.fromkeys(made))  # each once
         sys.stdout.buffer.write("".join(q + "\n" for q in questions).encode("utf-8"))

@@ -1,10 +1,11 @@
 #!/bin/sh
-# Asks the built oracle the stored list of questions, and stores list and answers for the program `replay`: record.sh
-# Where questions.py and the oracle are as they were, the two files are too.
+# Asks the built oracle the stored lists of questions, and stores lists and answers for the programs `replay` and `replay_packets`: record.sh
+# Where questions.py and the oracle are as they were, the files are too.
 set -eu
 cd "$(dirname "$0")"
 [ -x target/release/gpmf-oracle ] || { echo "no oracle: build it first, build.sh DOCS_SRC" >&2; exit 2; }
-replay=../crates/replay
-./questions.py > "$replay/stdin"
-target/release/gpmf-oracle < "$replay/stdin" > "$replay/stdout"
-wc -c "$replay/stdin" "$replay/stdout"
+for program in replay replay_packets; do
+    ./questions.py "$program" > "../crates/$program/stdin"
+    target/release/gpmf-oracle < "../crates/$program/stdin" > "../crates/$program/stdout"
+    wc -c "../crates/$program/stdin" "../crates/$program/stdout"
+done

@@ -27,7 +27,9 @@ fn answer(line: &str) -> Option<String> {
         "matrix" => matrix(asked),
         "back" => back(asked),
         "quat" => quat(asked),
+        "stamp" => stamp(asked),
         "avg" => avg(asked),
+        "average" => average(asked),
         "cut" => cut(asked),
         "cuts" => cuts(asked),
         "sett" => sett(asked),
@@ -212,6 +214,43 @@ fn quat(asked: &[&str]) -> Option<String> {
         Ok(map) => format!("ok{}", probe::quats(map)),
         Err(_) => "err".into(),
     })
+}
+
+/// stamp GROUPKEY HEX
+fn stamp(asked: &[&str]) -> Option<String> {
+    let [group, payload] = asked else { return None };
+    let group = KLV::group_from_key(&key(group)?);
+    Some(match parsed(&bytes(payload)?, false) {
+        Ok(map) => map.get(&group).and_then(probe::stamp).map_or("none".into(), |us| format!("ok {us}")),
+        Err(_) => "err".into(),
+    })
+}
+
+/// A packet of GYRO readings, so many of them, with a stamp where there is one; none where a header cannot write its length.
+fn gyro_packet(count: u16, stamp: Option<u64>) -> Option<Vec<u8>> {
+    let mut stream = Vec::new();
+    if let Some(us) = stamp { stream.extend([b"STMPJ\x08\0\x01".as_slice(), &us.to_be_bytes()].concat()); }
+    stream.extend([b"GYROs\x06".as_slice(), &count.to_be_bytes()].concat());
+    stream.resize((stream.len() + count as usize * 6).next_multiple_of(4), 0);
+    Some([b"STRM\0\x04".as_slice(), &u16::try_from(stream.len() / 4).ok()?.to_be_bytes(), &stream].concat())
+}
+/// average COUNT:STAMP:DURATION:MISSING ... (the stamp in µs or `-`, the duration in ms as f64 bits in hex, 1 where time is missing since
+/// the last stamped packet): the packets are made up, and put on the track where the Rust finds as much time missing as is said
+fn average(asked: &[&str]) -> Option<String> {
+    let mut samples: Vec<SampleInfo> = Vec::new();
+    let mut end_of_stamped = 0.0;
+    let mut stamped_duration = 0.0;
+    for packet in asked {
+        let f: Vec<&str> = packet.split(':').collect();
+        let [count, stamp, duration, missing] = f[..] else { return None };
+        let us = if stamp == "-" { None } else { Some(number(stamp)?) };
+        let duration_ms = f64::from_bits(bits(duration)?);
+        let timestamp_ms = match missing { "0" => end_of_stamped, "1" => end_of_stamped + stamped_duration, _ => return None };
+        let payload = gyro_packet(u16::try_from(number(count)?).ok()?, us)?;
+        samples.push(SampleInfo { timestamp_ms, duration_ms, tag_map: parsed(&payload, false).ok(), ..Default::default() });
+        if us.is_some() { end_of_stamped = timestamp_ms + duration_ms; stamped_duration = duration_ms; }
+    }
+    Some(probe::avg(&samples, &GroupId::Gyroscope).map_or("none".into(), |v| format!("ok {}", v.show())))
 }
 
 /// avg GROUPKEY TIMESTAMP_MS:DURATION_MS:HEX ... (the two as f64 bits in hex)

@@ -311,8 +311,8 @@ fn shown_of(element: Element) -> Shown {
     match element {
         Element::Signed(n) => made(b'i', n, 0),
         Element::Unsigned(n) => made(b'u', 0, n),
-        Element::Single(x) => made(b'f', 0, single_bits(x) as u64),
-        Element::Double(x) => made(b'd', 0, double_bits(x)),
+        Element::Single(x) => made(b'f', 0, float_bits::single_bits(x) as u64),
+        Element::Double(x) => made(b'd', 0, float_bits::double_bits(x)),
     }
 }
 
@@ -321,20 +321,6 @@ fn made(letter: u8, signed: i64, number: u64) -> Shown {
         letter,
         signed,
         number,
-    }
-}
-
-// The bits of an f32; those of one NaN for every NaN.
-fn single_bits(x: f32) -> u32 {
-    if x == x { f32::to_bits(x) } else { 0x7fc0_0000 }
-}
-
-// The bits of an f64; those of one NaN for every NaN.
-fn double_bits(x: f64) -> u64 {
-    if x == x {
-        f64::to_bits(x)
-    } else {
-        0x7ff8_0000_0000_0000
     }
 }
 

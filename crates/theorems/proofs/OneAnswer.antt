@@ -115,6 +115,24 @@ use Rattle.raw_metadata.proofs.next_metadata.Kinds as next-metadata-kinds
 use Rattle.raw_metadata.proofs.next_metadata.Reads as next-metadata-reads
 use Rattle.raw_metadata.proofs.next_metadata_in.Kinds as next-metadata-in-kinds
 use Rattle.raw_metadata.proofs.next_metadata_in.Reads as next-metadata-in-reads
+use Rattle.float_bits.proofs.single_bits.Kinds as single-bits-kinds
+use Rattle.float_bits.proofs.single_bits.Reads as single-bits-reads
+use Rattle.float_bits.proofs.double_bits.Kinds as double-bits-kinds
+use Rattle.float_bits.proofs.double_bits.Reads as double-bits-reads
+use Rattle.tagged.proofs.tagged_item.Kinds as tagged-item-kinds
+use Rattle.tagged.proofs.tagged_item.Reads as tagged-item-reads
+use Rattle.tagged.proofs.is_one_number.Kinds as is-one-number-kinds
+use Rattle.tagged.proofs.is_one_number.Reads as is-one-number-reads
+use Rattle.quaternions.proofs.negated.Kinds as negated-kinds
+use Rattle.quaternions.proofs.negated.Reads as negated-reads
+use Rattle.quaternions.proofs.scaled.Kinds as scaled-kinds
+use Rattle.quaternions.proofs.scaled.Reads as scaled-reads
+use Rattle.quaternions.proofs.scaled_quaternion.Kinds as scaled-quaternion-kinds
+use Rattle.quaternions.proofs.scaled_quaternion.Reads as scaled-quaternion-reads
+use Rattle.stamps.proofs.stamp_us.Kinds as stamp-us-kinds
+use Rattle.stamps.proofs.stamp_us.Reads as stamp-us-reads
+use Rattle.durations.proofs.get_avg_sample_duration.Kinds as get-avg-sample-duration-kinds
+use Rattle.durations.proofs.get_avg_sample_duration.Reads as get-avg-sample-duration-reads
 
 -- a promise over n lifetimes, parameters and a result settles the result
 abbrev pub OneResult : (n : ℕ) (parameters : List (PK n)) (result : RK n) → Out n parameters result → Type 0
@@ -293,3 +311,30 @@ next-metadata κs a x y s t p q = (p .is ∙ sym (q .is), p .rows ∙ sym (q .ro
 
 pub next-metadata-in : OneAnswer 2 next-metadata-in-kinds.ps next-metadata-in-kinds.r next-metadata-in-reads.Learnt (λ κs s. now (s .1 .1 .1 .1 .0))
 next-metadata-in κs a x y s t p q = (p .is ∙ sym (q .is), p .rows ∙ sym (q .rows))
+
+pub single-bits : OneResult 0 single-bits-kinds.ps single-bits-kinds.r single-bits-reads.Learnt
+single-bits κs a x y s t p q = p ∙ sym q
+
+pub double-bits : OneResult 0 double-bits-kinds.ps double-bits-kinds.r double-bits-reads.Learnt
+double-bits κs a x y s t p q = p ∙ sym q
+
+pub tagged-item : OneResult 2 tagged-item-kinds.ps tagged-item-kinds.r tagged-item-reads.Learnt
+tagged-item κs a x y s t p q = p ∙ sym q
+
+pub is-one-number : OneResult 0 is-one-number-kinds.ps is-one-number-kinds.r is-one-number-reads.Learnt
+is-one-number κs a x y s t p q = p ∙ sym q
+
+pub negated : OneResult 0 negated-kinds.ps negated-kinds.r negated-reads.Learnt
+negated κs a x y s t p q = p ∙ sym q
+
+pub scaled : OneResult 0 scaled-kinds.ps scaled-kinds.r scaled-reads.Learnt
+scaled κs a x y s t p q = p ∙ sym q
+
+pub scaled-quaternion : OneResult 2 scaled-quaternion-kinds.ps scaled-quaternion-kinds.r scaled-quaternion-reads.Learnt
+scaled-quaternion κs a x y s t p q = p ∙ sym q
+
+pub stamp-us : OneResult 2 stamp-us-kinds.ps stamp-us-kinds.r stamp-us-reads.Learnt
+stamp-us κs a x y s t p q = p ∙ sym q
+
+pub get-avg-sample-duration : OneResult 5 get-avg-sample-duration-kinds.ps get-avg-sample-duration-kinds.r get-avg-sample-duration-reads.Learnt
+get-avg-sample-duration κs a x y s t p q = p ∙ sym q

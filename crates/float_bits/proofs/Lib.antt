@@ -1,0 +1,2 @@
+mod EqualToItself
+pub mod Cases
