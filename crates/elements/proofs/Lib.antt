@@ -2,4 +2,5 @@ mod Keys
 mod Nans
 mod TwosComplement
 pub mod Whole
+pub mod Near
 pub mod Cases

@@ -8,7 +8,8 @@ use lib.IntN.{ℤ, pos, negsuc}
 use lib.Ieee.{binary32, binary64, ofBits}
 use lib.ListN.{length, take, drop}
 use Rattle.foundation.specs.BigEndian.{bigEndian}
-use Rattle.fixed.specs.Fixed.{q15-16, q31-32}
+use Rattle.fixed.specs.declared.Exact.{Exact}
+use Rattle.fixed.specs.Fixed.{q15-16, q31-32, q31-32-exact}
 use Rattle.elements.specs.Types.{among, widthOf}
 use Rattle.elements.specs.declared.Element.{Element}
 use Rattle.elements.specs.declared.Element.the-variants.{Signed, Unsigned, Single, Double}
@@ -31,3 +32,13 @@ elementOf letter n =
 -- the element at a place: 0 where its bytes are not all there
 unfoldable pub elementAt : List ℕ → ℕ → ℕ → Element
 elementAt s at letter = cond (leb (at + widthOf letter) (length s)) (elementOf letter (bigEndian (take (widthOf letter) (drop at s)))) (Unsigned 0)
+
+-- ---- Q with nothing rounded: "the exact form, two whole numbers" (document 01, Values)
+
+-- of the number that its bytes give: the same two parts
+unfoldable pub exactOf : ℕ → Exact
+exactOf n = q31-32-exact (signedOf 0x8000_0000 (n / 0x1_0000_0000)) (n % 0x1_0000_0000)
+
+-- at a place: 0 where its bytes are not all there
+unfoldable pub exactAt : List ℕ → ℕ → Exact
+exactAt s at = cond (leb (at + 8) (length s)) (exactOf (bigEndian (take 8 (drop at s)))) (exactOf 0)

@@ -1,11 +1,12 @@
 // Elements: what the bytes of one number stand for, by the letter of its type.
+use fixed::Exact;
 use foundation::big_endian;
 ghost use mathlib.Core.Path.{_≡_};
 ghost use Prim.Native.Nat.{_+_, _/_, _%_, _^_, _<_, _≤_};
 ghost use lib.Ieee.{binary32, binary64, ofBits};
 ghost use Rattle.fixed.specs.Fixed.{q15-16, q31-32};
 ghost use Rattle.elements.specs.Types.{widthOf};
-ghost use Rattle.elements.specs.Element.{signedOf, elementOf, elementAt};
+ghost use Rattle.elements.specs.Element.{signedOf, elementOf, elementAt, exactOf, exactAt};
 
 // One element of a value.
 pub enum Element {
@@ -70,14 +71,25 @@ fn fixed_single(n: u64) -> f32
     fixed::q15_16(signed(n / 0x1_0000, 0x8000) as i16, (n % 0x1_0000) as u16)
 }
 
+// The upper 32 bits, signed.
+fn upper(n: u64) -> i32
+    ensures { λ r. ⌜ r ≡ signedOf 0x8000_0000 (n / 0x1_0000_0000) ⌝ }
+{
+    signed(n / 0x1_0000_0000, 0x8000_0000) as i32
+}
+
 // Q: the upper 32 bits, signed, and the lower 32.
 fn fixed_double(n: u64) -> f64
     ensures { λ r. ⌜ r ≡ q31-32 (signedOf 0x8000_0000 (n / 0x1_0000_0000)) (n % 0x1_0000_0000) ⌝ }
 {
-    fixed::q31_32(
-        signed(n / 0x1_0000_0000, 0x8000_0000) as i32,
-        (n % 0x1_0000_0000) as u32,
-    )
+    fixed::q31_32(upper(n), (n % 0x1_0000_0000) as u32)
+}
+
+// Q with nothing rounded.
+fn fixed_exact(n: u64) -> Exact
+    ensures { λ r. ⌜ r ≡ exactOf n ⌝ }
+{
+    fixed::q31_32_exact(upper(n), (n % 0x1_0000_0000) as u32)
 }
 
 // The element whose bytes give the number n.
@@ -111,4 +123,17 @@ pub fn element_at(s: &[u8], at: usize, letter: u8) -> Element
         return Element::Unsigned(0);
     }
     element_of(letter, big_endian(&s[at..at + width]))
+}
+
+// The Q number at a place with nothing rounded; 0 where its bytes are not all there.
+pub fn exact_at(s: &[u8], at: usize) -> Exact
+    ensures { λ r. ⌜ r ≡ exactAt (now (s .entry)) at ⌝ }
+{
+    if s.len() < 8 {
+        return fixed_exact(0);
+    }
+    if s.len() - 8 < at {
+        return fixed_exact(0);
+    }
+    fixed_exact(big_endian(&s[at..at + 8]))
 }

@@ -133,6 +133,8 @@ use Rattle.stamps.proofs.stamp_us.Kinds as stamp-us-kinds
 use Rattle.stamps.proofs.stamp_us.Reads as stamp-us-reads
 use Rattle.durations.proofs.get_avg_sample_duration.Kinds as get-avg-sample-duration-kinds
 use Rattle.durations.proofs.get_avg_sample_duration.Reads as get-avg-sample-duration-reads
+use Rattle.elements.proofs.exact_at.Kinds as exact-at-kinds
+use Rattle.elements.proofs.exact_at.Reads as exact-at-reads
 
 -- a promise over n lifetimes, parameters and a result settles the result
 abbrev pub OneResult : (n : ℕ) (parameters : List (PK n)) (result : RK n) → Out n parameters result → Type 0
@@ -338,3 +340,6 @@ stamp-us κs a x y s t p q = p ∙ sym q
 
 pub get-avg-sample-duration : OneResult 5 get-avg-sample-duration-kinds.ps get-avg-sample-duration-kinds.r get-avg-sample-duration-reads.Learnt
 get-avg-sample-duration κs a x y s t p q = p ∙ sym q
+
+pub exact-at : OneResult 1 exact-at-kinds.ps exact-at-kinds.r exact-at-reads.Learnt
+exact-at κs a x y s t p q = p ∙ sym q
