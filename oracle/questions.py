@@ -449,6 +449,29 @@ def quaternions_scaled(draw, times):
     return (f"quat {shown(payload)}" for payload in quaternion_packets(draw, times))
 
 
+def oriented_packets(draw, times):
+    """Streams of GYRO, ACCL and MAGN with ORIN and ORIO of three ASCII letters or of other types, and MTRX of each shape."""
+    def axes(key):
+        text = draw.choice(SIGNED_ORDERS).encode() if draw.random() < 0.9 else bytes(draw.choices(b"XYZxAa", k=3))
+        return draw.choice((item(key, ord("c"), 1, 3, text), item(key, ord("c"), 3, 1, text), one(key, ord("F"), text), one(key, ord("B"), text), item(key, ord("c"), 2, 2, text + b"\0"), b""))
+    def matrix():
+        signs = b"".join(struct.pack(">f", draw.choice((0.0, 0.0, 1.0, -1.0, 0.5, 0.75))) for _ in range(9))
+        turned = b"".join(struct.pack(">f", n) for n in draw.choice(((0, -1, 0, 1, 0, 0, 0, 0, 1), (1, 0, 0, 0, 1, 0, 0, 0, 1))))
+        return draw.choice((b"", b"", b"", item(b"MTRX", ord("f"), 36, 1, turned), item(b"MTRX", ord("f"), 36, 1, signs), item(b"MTRX", ord("f"), 4, 9, turned), item(b"MTRX", ord("f"), 12, 3, turned),
+                            item(b"MTRX", ord("l"), 36, 1, turned), item(b"MTRX", ord("f"), 72, 1, turned * 2), item(b"MTRX", ord("q"), 36, 1, bytes.fromhex("00010000") * 9)))
+    for _ in range(400 * times):
+        streams = []
+        for _ in range(draw.choice((1, 1, 2))):
+            parts = [axes(b"ORIN"), axes(b"ORIO"), matrix()]
+            draw.shuffle(parts)
+            streams.append(stream([*parts, item(draw.choice((b"GYRO", b"ACCL", b"MAGN")), ord("s"), 6, 1, draw.randbytes(6))]))
+        yield b"".join(streams)
+
+
+def orientations(draw, times):
+    return (f"oriented {shown(payload)}" for payload in oriented_packets(draw, times))
+
+
 def stamped_packets(draw, times):
     """GYRO streams with STMP and TICK of each shape, in one stream or two, readable dates, and none."""
     def clock():
@@ -506,7 +529,7 @@ REPLAY = {
     "last": last_items,
     "none": lambda draw, times: no_questions(draw),
 }
-REPLAY_PACKETS = {"matrix": matrices, "back": backs, "cuts": cuts, "quat": quaternions_scaled, "stamp": stamps, "average": averages}
+REPLAY_PACKETS = {"matrix": matrices, "back": backs, "cuts": cuts, "oriented": orientations, "quat": quaternions_scaled, "stamp": stamps, "average": averages}
 LISTS = {"replay": REPLAY, "replay_packets": REPLAY_PACKETS}
 KINDS = {**REPLAY, **REPLAY_PACKETS}
 

@@ -26,6 +26,7 @@ fn answer(line: &str) -> Option<String> {
         "date" => date(asked),
         "matrix" => matrix(asked),
         "back" => back(asked),
+        "oriented" => oriented(asked),
         "quat" => quat(asked),
         "stamp" => stamp(asked),
         "avg" => avg(asked),
@@ -205,6 +206,15 @@ fn back(asked: &[&str]) -> Option<String> {
     let [numbers] = asked else { return None };
     let m: Option<Vec<f32>> = bytes(numbers)?.chunks(4).map(|c| Some(f32::from_be_bytes(c.try_into().ok()?))).collect();
     Some(format!("ok {}", probe::back(&m?)))
+}
+
+/// oriented HEX: the axes that `process_map` puts in for gyroscope, accelerometer and magnetometer
+fn oriented(asked: &[&str]) -> Option<String> {
+    let [payload] = asked else { return None };
+    Some(match parsed(&bytes(payload)?, false) {
+        Ok(map) => format!("ok{}", probe::oriented(map)),
+        Err(_) => "err".into(),
+    })
 }
 
 /// quat HEX

@@ -9,11 +9,18 @@ use elements::Element;
 use line::Decoded;
 use line::Number;
 use metadata::Metadata;
+use orientation::Oriented;
 use quaternions::Quaternion;
 use quaternions::ScaledRow;
 use raw_file::NextPacket;
 use raw_file::Packets;
 use stamps::Stamp;
+
+const GYRO: u32 = 0x4759524f;
+
+const ACCL: u32 = 0x4143434c;
+
+const MAGN: u32 = 0x4d41474e;
 
 const CORI: u32 = 0x434f5249;
 
@@ -120,7 +127,11 @@ fn first_numbers(s: &[f32], count: usize) -> &[f32] {
 
 fn put_axes(axes: Axes, out: &mut [u8], at: usize) -> usize {
     let ok = text::put_bytes(out, at, b"ok ");
-    let one = text::put(out, ok, axes.first);
+    put_letters(axes, out, ok)
+}
+
+fn put_letters(axes: Axes, out: &mut [u8], at: usize) -> usize {
+    let one = text::put(out, at, axes.first);
     let two = text::put(out, one, axes.second);
     text::put(out, two, axes.third)
 }
@@ -172,6 +183,65 @@ fn put_cut(start: usize, stop: usize, out: &mut [u8], at: usize) -> usize {
 
 fn row_buffer() -> [u32; 16384] {
     [0u32; 16384]
+}
+
+// oriented HEX
+pub(crate) fn put_oriented(hex: &[u8], out: &mut [u8], at: usize) -> usize {
+    let mut payload = file_buffer();
+    let Decoded::Bytes(n) = bytes_of(hex, &mut payload) else {
+        return put_unknown(out, at);
+    };
+    let mut rows = row_buffer();
+    match metadata::parse_metadata(first(&payload, n), false, &mut rows) {
+        Metadata::Refused {
+            number: _,
+            place: _,
+        } => text::put_bytes(out, at, b"err"),
+        Metadata::Rows {
+            rows: count,
+            headers: _,
+        } => put_all_oriented(first(&payload, n), &rows, count, out, at),
+    }
+}
+
+// Where the Rust panics, some group is refused.
+fn put_all_oriented(
+    payload: &[u8],
+    rows: &[u32],
+    count: usize,
+    out: &mut [u8],
+    at: usize,
+) -> usize {
+    let gyroscope = orientation::orientation_of_group(payload, rows, count, 1, GYRO);
+    let accelerometer = orientation::orientation_of_group(payload, rows, count, 1, ACCL);
+    let magnetometer = orientation::orientation_of_group(payload, rows, count, 1, MAGN);
+    if is_refused(gyroscope) || is_refused(accelerometer) || is_refused(magnetometer) {
+        return text::put_bytes(out, at, b"panic");
+    }
+    let ok = text::put_bytes(out, at, b"ok");
+    let one = put_named_axes(gyroscope, b" GYRO=", out, ok);
+    let two = put_named_axes(accelerometer, b" ACCL=", out, one);
+    put_named_axes(magnetometer, b" MAGN=", out, two)
+}
+
+fn is_refused(oriented: Oriented) -> bool {
+    match oriented {
+        Oriented::Refused {
+            number: _,
+            place: _,
+        } => true,
+        _ => false,
+    }
+}
+
+fn put_named_axes(oriented: Oriented, name: &[u8], out: &mut [u8], at: usize) -> usize {
+    match oriented {
+        Oriented::Is(axes) => {
+            let end = text::put_bytes(out, at, name);
+            put_letters(axes, out, end)
+        }
+        _ => at,
+    }
 }
 
 // quat HEX

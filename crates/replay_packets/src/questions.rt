@@ -19,6 +19,7 @@ fn put_answer(question: &[u8], out: &mut [u8], at: usize) -> usize {
         4 => motion::put_quaternions(one, out, at),
         5 => motion::put_stamp(one, two, out, at),
         6 => averages::put_average(question, out, at),
+        7 => motion::put_oriented(one, out, at),
         _ => put_unknown(out, at),
     }
 }
@@ -43,6 +44,9 @@ fn number_of(question: &[u8]) -> usize {
     }
     if check::same(name, b"average") {
         return 6;
+    }
+    if check::same(name, b"oriented") {
+        return 7;
     }
     0
 }
