@@ -29,12 +29,12 @@ lays-made {line} {buffer} {end} {out} {at} {answer} {after} m lays =
     let l : Lays line out at answer after = rw (← m .begins .holds) lays in
     record { is = l .is; leaves = l .leaves; short = rw (append-nil line) (omega (arith, m .short)) }
 
-laid-more : (ls ks : List (List ℕ)) (out : List ℕ) (at : ℕ) → laidLines (ls ++ ks) out at ≡ laidLines ks (laidLines ls out at) (behindLines ls out at)
+pub laid-more : (ls ks : List (List ℕ)) (out : List ℕ) (at : ℕ) → laidLines (ls ++ ks) out at ≡ laidLines ks (laidLines ls out at) (behindLines ls out at)
 unfolding laidLines behindLines
 laid-more [] ks out at = refl
 laid-more (l ∷ ls) ks out at = laid-more ls ks (laid out at l) (behind out at l)
 
-behind-more : (ls ks : List (List ℕ)) (out : List ℕ) (at : ℕ) → behindLines (ls ++ ks) out at ≡ behindLines ks (laidLines ls out at) (behindLines ls out at)
+pub behind-more : (ls ks : List (List ℕ)) (out : List ℕ) (at : ℕ) → behindLines (ls ++ ks) out at ≡ behindLines ks (laidLines ls out at) (behindLines ls out at)
 unfolding laidLines behindLines
 behind-more [] ks out at = refl
 behind-more (l ∷ ls) ks out at = behind-more ls ks (laid out at l) (behind out at l)

@@ -1,0 +1,73 @@
+-- What is printed of a take: for each packet of a raw file a line, its listing, and where it is refused the listing of its front; and the counts at the end.
+-- Document 01, Cases, 12, has the listing, and Refusal numbers the front ("The walk's place is the start of the outermost item concerned").
+-- Assumes nothing: these are definitions.
+use Prim.Native.Nat.{ℕ}
+use mathlib.Core.Path.{_≡_}
+use mathlib.Core.Bool.{Bool, true, false}
+use mathlib.Core.List.{List, [], _∷_, _++_}
+use lib.ListN.{length, take}
+use Rattle.foundation.specs.Text.{characters}
+use Rattle.reading.specs.Walk.{Outcome, accepted, refused, readingOf, roomOf}
+use Rattle.reading.specs.Answer.{lent}
+use Rattle.text.specs.Numerals.{decimal}
+use Rattle.metadata.specs.declared.Metadata.the-variants.{Rows, Refused}
+use Rattle.listing.specs.Listing.{answerLine, listing}
+use Rattle.listing.specs.Lines.{laidLines, behindLines}
+
+-- ---- the parts of what is printed, one behind the other
+
+-- a line of three numbers, each behind its word
+abbrev pub countsLine : List ℕ → ℕ → List ℕ → ℕ → List ℕ → ℕ → List (List ℕ)
+countsLine one n two m three k = one ∷ decimal n ∷ two ∷ decimal m ∷ three ∷ decimal k ∷ characters "\n" ∷ []
+
+-- "packet K at P bytes N": its number from 1, and its start and its length in the file
+abbrev pub packetLine : ℕ → ℕ → ℕ → List (List ℕ)
+packetLine number place bytes = countsLine (characters "packet ") number (characters " at ") place (characters " bytes ") bytes
+
+-- "packets A read B refused C"
+abbrev pub totalsLine : ℕ → ℕ → ℕ → List (List ℕ)
+totalsLine packets read not-read = countsLine (characters "packets ") packets (characters " read ") read (characters " refused ") not-read
+
+-- "front rows N headers M", and the lines of the front: the bytes before the place, read with the same room
+abbrev pub front : List ℕ → ℕ → ℕ → List (List ℕ)
+front payload room place = characters "front " ∷ listing (readingOf false (take place payload) room)
+
+-- A PACKET of a file. Of the archivist's whole take a refused one is left out
+abbrev pub packet : Bool → ℕ → ℕ → List ℕ → ℕ → Outcome → List (List ℕ)
+packet whole number place payload room (accepted rs headers) = packetLine number place (length payload) ++ listing (accepted rs headers)
+packet true number place payload room (refused why at) = []
+packet false number place payload room (refused why at) = packetLine number place (length payload) ++ (listing (refused why at) ++ front payload room at)
+
+-- A PACKET OVER WHAT IS HELD: refused with 1 at 0, and nothing stands before 0
+abbrev pub longPacket : Bool → ℕ → ℕ → ℕ → List (List ℕ)
+longPacket true number place bytes = []
+longPacket false number place bytes = packetLine number place bytes ++ (answerLine (Refused 1 0) ∷ characters "front " ∷ answerLine (Rows 0 0) ∷ [])
+
+-- whether a packet counts as read
+abbrev pub isAccepted : Outcome → Bool
+isAccepted (accepted rs headers) = true
+isAccepted (refused why at) = false
+
+-- the lent numbers afterwards: where a packet is refused, those of its front
+abbrev pub lentBy : Bool → List ℕ → List ℕ → Outcome → List ℕ
+lentBy whole payload old (accepted rs headers) = lent (accepted rs headers) old
+lentBy true payload old (refused why at) = old
+lentBy false payload old (refused why at) = lent (readingOf false (take at payload) (roomOf (length old))) old
+
+-- ---- what is promised
+
+-- texts laid one behind the other: the place that is answered, and the buffer
+pub record LaysAll (texts : List (List ℕ)) (out : List ℕ) (at answer : ℕ) (after : List ℕ) : Type 0 where
+  pub is : answer ≡ behindLines texts out at
+  pub leaves : after ≡ laidLines texts out at
+
+-- the listing of a front, with the lent numbers
+pub record Fronts (payload : List ℕ) (place : ℕ) (old out : List ℕ) (at answer : ℕ) (new after : List ℕ) : Type 0 where
+  pub lays : LaysAll (front payload (roomOf (length old)) place) out at answer after
+  pub rows : new ≡ lent (readingOf false (take place payload) (roomOf (length old))) old
+
+-- a packet that was read so, laid, with the lent numbers
+pub record Takes (whole : Bool) (number place : ℕ) (payload : List ℕ) (outcome : Outcome) (old out : List ℕ) (at answer : ℕ) (read : Bool) (new after : List ℕ) : Type 0 where
+  pub lays : LaysAll (packet whole number place payload (roomOf (length old)) outcome) out at answer after
+  pub is : read ≡ isAccepted outcome
+  pub rows : new ≡ lentBy whole payload old outcome
