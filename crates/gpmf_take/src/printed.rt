@@ -1,0 +1,112 @@
+// What is printed of the packets, and how many of them there were.
+
+// The most bytes that are held of a packet.
+pub(crate) const MOST_BYTES: usize = 65536;
+
+// More than a packet takes: two lines, and those of the most rows, 2,049 of at most 56 bytes.
+const MOST_PRINTED: usize = 131072;
+
+// The packets that were read, and those that were refused, so far, and the bytes laid that are to be written.
+pub(crate) struct Counts {
+    pub read: u64,
+    pub refused: u64,
+    pub laid: usize,
+}
+
+pub(crate) fn nothing() -> Counts {
+    Counts {
+        read: 0,
+        refused: 0,
+        laid: 0,
+    }
+}
+
+// Prints a packet, by its bytes and its start in the file.
+pub(crate) fn put_packet(
+    counts: Counts,
+    payload: &[u8],
+    place: u64,
+    whole: bool,
+    rows: &mut [u32],
+    out: &mut [u8],
+) -> Counts {
+    if MOST_BYTES < payload.len() {
+        let end = std::num::wrapping_add_u64(place, payload.len() as u64);
+        return put_long(counts, place, end, whole, out);
+    }
+    let laid = make_room(out, counts.laid);
+    let taken = take::put_packet(payload, next_number(counts), place, whole, rows, out, laid);
+    if taken.accepted {
+        return Counts {
+            read: one_more(counts.read),
+            refused: counts.refused,
+            laid: taken.end,
+        };
+    }
+    refused(counts, taken.end)
+}
+
+// Prints a packet over what is held, by its start in the file and its end.
+fn put_long(counts: Counts, place: u64, end: u64, whole: bool, out: &mut [u8]) -> Counts {
+    let laid = make_room(out, counts.laid);
+    let bytes = std::num::wrapping_sub_u64(end, place);
+    refused(
+        counts,
+        take::put_long_packet(next_number(counts), place, bytes, whole, out, laid),
+    )
+}
+
+// Prints two such packets that have one end, or one, where their starts are the same.
+pub(crate) fn put_longs(
+    counts: Counts,
+    first: u64,
+    second: u64,
+    end: u64,
+    whole: bool,
+    out: &mut [u8],
+) -> Counts {
+    let one = put_long(counts, first, end, whole, out);
+    if first == second {
+        return one;
+    }
+    put_long(one, second, end, whole, out)
+}
+
+// One more refused, and so much laid.
+fn refused(counts: Counts, laid: usize) -> Counts {
+    Counts {
+        read: counts.read,
+        refused: one_more(counts.refused),
+        laid,
+    }
+}
+
+// The number of the next packet.
+fn next_number(counts: Counts) -> u64 {
+    one_more(std::num::wrapping_add_u64(counts.read, counts.refused))
+}
+
+fn one_more(n: u64) -> u64 {
+    std::num::wrapping_add_u64(n, 1)
+}
+
+// Writes what is laid where less room is left than a packet may take, and answers where the next one goes.
+fn make_room(out: &[u8], laid: usize) -> usize {
+    if laid < MOST_PRINTED {
+        return laid;
+    }
+    write(out, laid);
+    0
+}
+
+// Prints the last line, and writes all that is laid.
+pub(crate) fn put_totals(counts: Counts, out: &mut [u8]) {
+    let laid = make_room(out, counts.laid);
+    let packets = std::num::wrapping_add_u64(counts.read, counts.refused);
+    let end = take::put_totals(out, laid, packets, counts.read, counts.refused);
+    write(out, end);
+}
+
+fn write(out: &[u8], laid: usize) {
+    io::write_all(libc::STDOUT_FILENO, crate::held::first(out, laid));
+}
