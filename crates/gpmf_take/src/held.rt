@@ -1,4 +1,5 @@
 // The window of the file that is held.
+use crate::step::Step;
 ghost use mathlib.Core.Path.{_≡_};
 ghost use Prim.Native.Nat.{min};
 
@@ -19,8 +20,19 @@ pub(crate) fn nothing() -> Held {
     }
 }
 
+// The window after a step.
+pub(crate) fn after(step: Step, held: Held, bytes: &mut [u8]) -> Held {
+    match step {
+        Step::Print { packet: _, rest } => at(held, rest.at),
+        Step::Read { from } => read_on(held, from, bytes),
+        Step::ReadPast { from: _ } => read_on(held, last_three(held.count), bytes),
+        Step::PrintLong { end } => at(held, end),
+        Step::End => held,
+    }
+}
+
 // The same window, to go on at a place.
-pub(crate) fn at(held: Held, at: usize) -> Held {
+fn at(held: Held, at: usize) -> Held {
     Held {
         count: held.count,
         base: held.base,
@@ -47,7 +59,7 @@ pub(crate) fn last_three(count: usize) -> usize {
 }
 
 // Lets go of the bytes in front of a place, and reads on behind the rest.
-pub(crate) fn read_on(held: Held, from: usize, bytes: &mut [u8]) -> Held {
+fn read_on(held: Held, from: usize, bytes: &mut [u8]) -> Held {
     let kept = keep(bytes, from, held.count);
     let mut chunk = io::large_buffer();
     let got = io::read_full(libc::STDIN_FILENO, &mut chunk);

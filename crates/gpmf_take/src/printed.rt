@@ -1,4 +1,7 @@
 // What is printed of the packets, and how many of them there were.
+use crate::held::Held;
+use crate::long::Long;
+use crate::step::Step;
 
 // The most bytes that are held of a packet.
 pub(crate) const MOST_BYTES: usize = 65536;
@@ -21,8 +24,35 @@ pub(crate) fn nothing() -> Counts {
     }
 }
 
+// Prints what a step prints.
+pub(crate) fn put_step(
+    step: Step,
+    held: Held,
+    long: Long,
+    counts: Counts,
+    whole: bool,
+    window: &[u8],
+    rows: &mut [u32],
+    out: &mut [u8],
+) -> Counts {
+    match step {
+        Step::Print { packet, rest: _ } => {
+            let payload = crate::held::part(window, packet.start, packet.end);
+            let place = crate::held::in_file(held, packet.start);
+            put_packet(counts, payload, place, whole, rows, out)
+        }
+        Step::PrintLong { end } => {
+            let place = crate::held::in_file(held, end);
+            put_longs(counts, long, place, whole, out)
+        }
+        Step::Read { from: _ } => counts,
+        Step::ReadPast { from: _ } => counts,
+        Step::End => counts,
+    }
+}
+
 // Prints a packet, by its bytes and its start in the file.
-pub(crate) fn put_packet(
+fn put_packet(
     counts: Counts,
     payload: &[u8],
     place: u64,
@@ -56,20 +86,13 @@ fn put_long(counts: Counts, place: u64, end: u64, whole: bool, out: &mut [u8]) -
     )
 }
 
-// Prints two such packets that have one end, or one, where their starts are the same.
-pub(crate) fn put_longs(
-    counts: Counts,
-    first: u64,
-    second: u64,
-    end: u64,
-    whole: bool,
-    out: &mut [u8],
-) -> Counts {
-    let one = put_long(counts, first, end, whole, out);
-    if first == second {
+// Prints the long packets that end at a place in the file.
+fn put_longs(counts: Counts, long: Long, end: u64, whole: bool, out: &mut [u8]) -> Counts {
+    let one = put_long(counts, long.first, end, whole, out);
+    if long.first == long.second {
         return one;
     }
-    put_long(one, second, end, whole, out)
+    put_long(one, long.second, end, whole, out)
 }
 
 // One more refused, and so much laid.

@@ -12,11 +12,11 @@ abbrev μ-loop : tie.MeasureT-loop
 nothing-requires : tie.Need-nothing-requires Inv-loop μ-loop
 nothing-requires c κs = tt
 
+none-requires : tie.Need-none-requires Inv-loop μ-loop
+none-requires c κs = tt
+
 nothing-requires-2 : tie.Need-nothing-requires-2 Inv-loop μ-loop
 nothing-requires-2 c κs = tt
-
-cutting-requires : tie.Need-cutting-requires Inv-loop μ-loop
-cutting-requires c κs = tt
 
 loop-holds : tie.Need-loop-holds Inv-loop μ-loop
 loop-holds c = tt
@@ -52,8 +52,8 @@ take-all-spec =
     Inv-loop
     μ-loop
     nothing-requires
+    none-requires
     nothing-requires-2
-    cutting-requires
     loop-holds
     one-turn-requires
     sub-turns
