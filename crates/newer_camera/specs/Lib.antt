@@ -1,0 +1,3 @@
+pub mod PutIn
+pub mod Met
+pub mod OtherBytes

@@ -1,0 +1,48 @@
+-- New items put into a payload: a relation between the bytes before and the bytes after. Demand 3: "Put new items in front of items the walk
+-- reaches, at any depth: each whole, padded to four bytes, no container, not keyed TYPE, enclosing lengths written to match, each a product
+-- that a size byte and a 16-bit repeat can write (262,148 is none)." Assumes nothing: these are definitions.
+use Prim.Native.Nat.{ℕ, _+_, _≤_}
+use mathlib.Core.Path.{_≡_}
+use mathlib.Core.Logic.{_≢_}
+use mathlib.Core.List.{List, _++_}
+use lib.ListN.{length}
+use Rattle.foundation.specs.Text.{key}
+use Rattle.klv.specs.declared.KLV.{KLV}
+use Rattle.klv.specs.Item.{dataLen, aligned, Written, laidOut, Padded}
+
+-- a header that fits a payload: "a product that a size byte and a 16-bit repeat can write", and the payload is as long
+pub record Fits (h : KLV) (payload : List ℕ) : Type 0 where
+  pub written : Written h
+  pub is-long : dataLen h ≡ length payload
+
+-- a new item: "each whole, padded to four bytes, no container, not keyed TYPE"; its padding may be any bytes
+pub record IsNew (h : KLV) (payload padding : List ℕ) : Type 0 where
+  pub whole : Fits h payload
+  pub padded : length payload + length padding ≡ aligned (length payload)
+  pub no-container : h .«data_type» ≢ 0
+  pub not-type : h .key ≢ key "TYPE"
+
+-- an old item, with what stands behind it in its level: the last one's padding may be missing
+pub record IsOld (h : KLV) (payload padding behind : List ℕ) : Type 0 where
+  pub whole : Fits h payload
+  pub padded : Padded (length payload) padding behind
+
+-- an old container's header, written anew for its new payload: "enclosing lengths written to match", by any size and repeat
+pub record Matches (old new : KLV) (payload : List ℕ) : Type 0 where
+  pub container : old .«data_type» ≡ 0
+  pub still-container : new .«data_type» ≡ 0
+  pub same-key : new .key ≡ old .key
+  pub whole : Fits new payload
+
+-- PUT IN: from some place of a level on, the bytes before and the bytes after
+pub data PutIn : List ℕ → List ℕ → Type 0 where
+  -- nothing more
+  nothing : {s : List ℕ} → PutIn s s
+  -- a new item, "in front of items the walk reaches": while 8 bytes or more remain, the walk reads an item
+  new : {h : KLV} {payload padding s t : List ℕ} → IsNew h payload padding → 8 ≤ length s → PutIn s t → PutIn s (laidOut h payload padding ++ t)
+  -- an old item as it was, and more behind it
+  behind : {h : KLV} {payload padding s t : List ℕ} → IsOld h payload padding s → PutIn s t
+      → PutIn (laidOut h payload padding ++ s) (laidOut h payload padding ++ t)
+  -- an old container with more inside it, "at any depth", and more behind it
+  inside : {h g : KLV} {payload grown padding s t : List ℕ} → IsOld h payload padding s → Matches h g grown → PutIn payload grown → PutIn s t
+      → PutIn (laidOut h payload padding ++ s) (laidOut g grown padding ++ t)
