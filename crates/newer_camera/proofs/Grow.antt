@@ -17,8 +17,8 @@ use Rattle.reading.specs.Walk as Walk
 use Rattle.reading.specs.Walk.{Role, empty, container, typeItem, rowItem, roleOf, headersFor, Spot, typeAfter, after, Outcome, accepted, byRole, itemOutcome, walk, walkItem}
 use Rattle.reading.proofs.Role.{role-empty, role-container, Means, role-means}
 use Rattle.reading.proofs.Walk.{node-accepted}
-use Rattle.newer_camera.specs.PutIn.{IsNew, IsOld, Matches, PutIn, nothing, new, behind, inside}
-use Rattle.newer_camera.specs.Met.{keyOf, groupIn, ownRow, newRows, putBefore, movedBy}
+use Rattle.newer_camera.specs.PutIn.{IsNew, IsOld, Matches, Reached, PutIn, nothing, new, behind, inside}
+use Rattle.newer_camera.specs.Rows.{keyOf, groupIn, ownRow, rowsFrom, putBefore, movedBy}
 use Rattle.newer_camera.proofs.Put.{long, none-in, fours, new-level, old-level, behind-level, inside-level, put-low, put-high, agree-same, agree-key, agree-put}
 use Rattle.newer_camera.proofs.Grown.{Grown, then-grown, no-rows, not-type, new-grown, container-grown}
 use Rattle.newer_camera.proofs.Same.{Alike, alike-inside, alike-after, item-same, again}
@@ -42,8 +42,8 @@ pub container-keeps-type : (h : KLV) (payload : List ℕ) (here : Spot) → h .�
 container-keeps-type h payload here e = keeps-type h payload here (λ text z. z e)
 
 -- nothing put in, no new rows
-none-new : {s t : List ℕ} (put : PutIn s t) (here : Spot) → length s ≡ 0 → newRows put here ≡ []
-unfolding newRows
+none-new : {s t : List ℕ} (put : PutIn s t) (here : Spot) → length s ≡ 0 → rowsFrom put here ≡ []
+unfolding rowsFrom
 none-new nothing here z = refl
 none-new (new i front put) here z = absurd (omega arith)
 none-new (behind {h = h} {payload = payload} {padding = padding} {s = s} i put) here z = absurd (omega (arith, long h payload padding s))
@@ -63,14 +63,14 @@ module _ (by : ℕ → ℕ) where
   abbrev pub Grows : {s t : List ℕ} → PutIn s t → Type 0
   Grows {s = s} {t = t} put =
       (here there : Spot) (δ : ℕ) → Alike by here there → there .place ≡ here .place + δ → Local put (here .place) δ
-      → (room : ℕ) (rs : List Record) (k : ℕ) → walk false (itemsOf s) here room ≡ accepted rs k → Grown (map (movedBy by) rs) (newRows put there) (walk false (itemsOf t) there)
+      → (room : ℕ) (rs : List Record) (k : ℕ) → walk false (itemsOf s) here room ≡ accepted rs k → Grown (map (movedBy by) rs) (rowsFrom put there) (walk false (itemsOf t) there)
 
   grow-nothing : (s : List ℕ) → Grows (nothing {s = s})
-  unfolding putBefore newRows
+  unfolding putBefore rowsFrom
   grow-nothing s here there δ alike moves local room rs k e = again by (itemsOf s) s here there δ refl alike moves (λ c l m. let o = local c l m in omega arith) room rs k e
 
-  grow-new : {h : KLV} {payload padding s t : List ℕ} (i : IsNew h payload padding) (front : 8 ≤ length s) (put : PutIn s t) → Grows put → Grows (new i front put)
-  unfolding putBefore newRows walk
+  grow-new : {h : KLV} {payload padding s t : List ℕ} (i : IsNew h payload padding) (front : Reached s) (put : PutIn s t) → Grows put → Grows (new i front put)
+  unfolding putBefore rowsFrom walk
   grow-new {h = h} {payload = payload} {padding = padding} {s = s} {t = t} i front put rest here there δ alike moves local room rs k e =
       let skipped : Alike by here (after there h payload) = record { depth = alike .depth; group = alike .group; type = new-keeps-type i payload there ∙ alike .type } in
       let second = rest here (after there h payload) (δ + (8 + aligned (dataLen h))) skipped (omega arith)
@@ -79,7 +79,7 @@ module _ (by : ℕ → ℕ) where
       (then-grown (walkItem false h payload (itemsOf payload) there) (walk false (itemsOf t) (after there h payload)) (new-grown h payload (itemsOf payload) there i) second)
 
   grow-behind : {h : KLV} {payload padding s t : List ℕ} (i : IsOld h payload padding s) (put : PutIn s t) → Grows put → Grows (behind i put)
-  unfolding putBefore newRows walk
+  unfolding putBefore rowsFrom walk
   grow-behind {h = h} {payload = payload} {padding = padding} {s = s} {t = t} i put rest here there δ alike moves local room rs k e =
       let n = long h payload padding s in
       let is-long = i .whole .is-long in
@@ -103,9 +103,9 @@ module _ (by : ℕ → ℕ) where
   inside-grown : {h g : KLV} {payload grown padding s : List ℕ} (i : IsOld h payload padding s) (m : Matches h g grown) (within : PutIn payload grown) (here there : Spot) (room : ℕ) (rs : List Record) (k : ℕ)
       → there .depth ≡ here .depth
       → ((j : ℕ) → walk false (itemsOf payload) (Walk.inside here (groupIn payload)) room ≡ accepted rs j
-      → Grown (map (movedBy by) rs) (newRows within (Walk.inside there (groupIn payload))) (walk false (itemsOf grown) (Walk.inside there (groupIn payload))))
+      → Grown (map (movedBy by) rs) (rowsFrom within (Walk.inside there (groupIn payload))) (walk false (itemsOf grown) (Walk.inside there (groupIn payload))))
       → walkItem false h payload (itemsOf payload) here room ≡ accepted rs k
-      → Grown (map (movedBy by) rs) (newRows within (Walk.inside there (groupIn payload))) (walkItem false g grown (itemsOf grown) there)
+      → Grown (map (movedBy by) rs) (rowsFrom within (Walk.inside there (groupIn payload))) (walkItem false g grown (itemsOf grown) there)
   unfolding itemOutcome
   inside-grown {h = h} {g = g} {payload = payload} {grown = grown} i m within here there room rs k depth inner e = go (decLe (dataLen h) 0)
     where
@@ -116,7 +116,7 @@ module _ (by : ℕ → ℕ) where
       its = headersFor false (there .depth)
 
       news : List Record
-      news = newRows within (Walk.inside there (groupIn payload))
+      news = rowsFrom within (Walk.inside there (groupIn payload))
 
       before : Role → Outcome
       before role = byRole own false h payload (lastItem (itemsOf payload) (here .place + 8)) (walk false (itemsOf payload)) here room role
@@ -153,7 +153,7 @@ module _ (by : ℕ → ℕ) where
 
   grow-inside : {h g : KLV} {payload grown padding s t : List ℕ} (i : IsOld h payload padding s) (m : Matches h g grown) (within : PutIn payload grown) (put : PutIn s t) → Grows within → Grows put
       → Grows (inside i m within put)
-  unfolding putBefore newRows walk
+  unfolding putBefore rowsFrom walk
   grow-inside {h = h} {g = g} {payload = payload} {grown = grown} {padding = padding} {s = s} {t = t} i m within put inner rest here there δ alike moves local room rs k e =
       let n = long h payload padding s in
       let is-long = i .whole .is-long in

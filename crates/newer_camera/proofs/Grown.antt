@@ -23,7 +23,8 @@ use Rattle.reading.specs.Walk.{Outcome, accepted, refused, inFront, andThen, ar
 use Rattle.reading.proofs.Outcome.{around-accepted}
 use Rattle.reading.proofs.Role.{role-empty, role-row}
 use Rattle.newer_camera.specs.PutIn.{IsNew}
-use Rattle.newer_camera.specs.Met.{keyOf, ownRow, Among, neither, an-old, a-new}
+use Rattle.newer_camera.specs.Rows.{keyOf, ownRow}
+use Rattle.newer_camera.specs.OldReader.{Among, neither, an-old, a-new}
 use Rattle.newer_camera.proofs.Put.{Agree, both-none, both-last, both-stopped}
 
 -- with room for all rows, the old among the new; else refused for want of room

@@ -3,5 +3,9 @@ pub mod Grown
 pub mod Same
 pub mod Grow
 pub mod Value
-pub mod NewerCamera
+pub mod Order
+pub mod Meeting
 pub mod Unaltered
+pub mod NewerCamera
+pub mod Admits
+pub mod Samples

@@ -14,7 +14,7 @@ use Rattle.reading.specs.Refusal.{Refusal}
 use Rattle.reading.specs.Last.{Last, none, last, stopped, orElse, lastItem}
 use Rattle.reading.proofs.Last.{last-none}
 use Rattle.newer_camera.specs.PutIn.{IsNew, IsOld, Matches, PutIn, nothing, new, behind, inside}
-use Rattle.newer_camera.specs.Met.{keyOf, putBefore}
+use Rattle.newer_camera.specs.Rows.{keyOf, putBefore}
 
 -- the length of an item and what stands behind it
 pub long : (h : KLV) (payload padding s : List ℕ) → length (laidOut h payload padding ++ s) ≡ 8 + (length payload + (length padding + length s))

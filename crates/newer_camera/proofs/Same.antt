@@ -17,7 +17,8 @@ use Rattle.reading.specs.Record.{Group, TypeInForce, noType, Record}
 use Rattle.reading.specs.Walk.{Role, empty, container, typeItem, rowItem, roleOf, headersFor, Spot, inside, typeAfter, after, typeShown, recordOf}
 use Rattle.reading.specs.Walk.{Outcome, accepted, rowOutcome, byRole, itemOutcome, walk, walkItem}
 use Rattle.reading.proofs.Walk.{node-accepted}
-use Rattle.newer_camera.specs.Met.{movedType, movedBy, Among, neither, an-old}
+use Rattle.newer_camera.specs.Rows.{movedType, movedBy}
+use Rattle.newer_camera.specs.OldReader.{Among, neither, an-old}
 use Rattle.newer_camera.proofs.Put.{agree-same}
 use Rattle.newer_camera.proofs.Grown.{Grown, then-grown, no-rows, row-grown, container-grown}
 

@@ -1,5 +1,4 @@
--- OTHER PAYLOAD BYTES IN NEW ITEMS alter no old row (demand 3's last sentence): each stands where it stood, and the whole answer, in numbers, is the same.
--- Assumes nothing.
+-- Other payload bytes in new items: every old row stands where it stood, and the whole answer, in numbers, is the same. Assumes nothing.
 use Prim.Native.Nat.{ℕ, zero, suc, _+_, _-_, _<_, _≤_}
 use mathlib.Core.Path.{_≡_, refl, sym, ap, _∙_}
 use mathlib.Core.Bool.{Bool, true, false, cond}
@@ -21,7 +20,7 @@ use Rattle.reading.specs.Answer.{Answer, rows, refusal, answer}
 use Rattle.reading.proofs.Payload.{read-long, read-within}
 use Rattle.reading.proofs.Role.{Means, role-means}
 use Rattle.newer_camera.specs.PutIn.{IsNew, IsOld, Matches, PutIn, nothing, new, behind, inside}
-use Rattle.newer_camera.specs.Met.{putBefore, movedBy, moved}
+use Rattle.newer_camera.specs.Rows.{putBefore, movedBy, moved}
 use Rattle.newer_camera.specs.OtherBytes.{OtherBytes, in-nothing, in-new, behind-old, inside-old, putAgain}
 use Rattle.newer_camera.proofs.Put.{long, new-level, old-level, behind-level, inside-level}
 use Rattle.newer_camera.proofs.Grow.{new-keeps-type, container-keeps-type}

@@ -21,12 +21,8 @@ use Rattle.reading.proofs.Role.{Means, role-means}
 use Rattle.reading.proofs.Stand.{ItemStands, InForceStands, Stands}
 use Rattle.values.specs.At as At
 use Rattle.values.specs.At.{named, typeFor, found, foundBy, foundAt, wholeIf}
-use Rattle.newer_camera.specs.Met.{textInForce, foundFor, movedType, movedBy}
-
--- the TYPE text that a value is read by, without its trailing zeros: only a `?` item asks for one
-abbrev textFor : KLV → TypeInForce → List ℕ
-textFor h noType = []
-textFor h (typeAt at text) = cond (eqb (h .«data_type») (code "?")) (kept text) []
+use Rattle.newer_camera.specs.Rows.{movedType, movedBy}
+use Rattle.newer_camera.specs.OldReader.{textInForce, foundFor, textFor, ownValue}
 
 module _ (s : List ℕ) (within : length s ≤ 1048576) where
   -- an item that stands at a place stands first from there on, and is as long as its header says
@@ -41,7 +37,7 @@ module _ (s : List ℕ) (within : length s ≤ 1048576) where
   unfolding At.typeAt
   named-there noType stands h = both (eqb (h .«data_type») (code "?"))
     where
-      both : (b : Bool) → cond b (named []) (named []) ≡ named []
+      both : (b : Bool) → cond b (named []) (named []) ≡ named (cond b [] [])
       both true = refl
       both false = refl
   named-there (typeAt at text) stands h = go (eqb (h .«data_type») (code "?"))
@@ -60,7 +56,7 @@ module _ (s : List ℕ) (within : length s ≤ 1048576) where
       go false = refl
 
   -- WHAT IS FOUND at a row's places
-  pub found-there : (r : Record) → Stands s r → foundFor s r ≡ found (r .content .header) (r .content .payload) (textFor (r .content .header) (r .type))
+  pub found-there : (r : Record) → Stands s r → foundFor s r ≡ ownValue r
   unfolding foundAt
   found-there r stands = rw (le-ltb 1048576 (length s) within, first (r .place) (r .content .header) (r .content .payload) (stands .item)) (go (r .content .payload) some)
     where
@@ -74,15 +70,11 @@ module _ (s : List ℕ) (within : length s ≤ 1048576) where
       go [] l = absurd (omega arith)
       go (b ∷ p) l = ap (λ n. wholeIf n h (b ∷ p) (r .place)) (named-there (r .type) (stands .type) h)
 
--- the same is found where a row is moved to
-pub found-moved : (s t : List ℕ) → length s ≤ 1048576 → length t ≤ 1048576 → (by : ℕ → ℕ) (r : Record) → Stands s r → Stands t (movedBy by r) → foundFor t (movedBy by r) ≡ foundFor s r
-unfolding movedBy
-found-moved s t l m by r here there = found-there t m (movedBy by r) there ∙ ap (found (r .content .header) (r .content .payload)) (same (r .type)) ∙ sym (found-there s l r here)
-  where
-    same : (x : TypeInForce) → textFor (r .content .header) (movedType by x) ≡ textFor (r .content .header) x
-    same noType = refl
-    same (typeAt at text) = refl
-
-pub text-moved : (by : ℕ → ℕ) (x : TypeInForce) → textInForce (movedType by x) ≡ textInForce x
+-- moving a row changes no text
+pub text-moved : (by : ℕ → ℕ) (t : TypeInForce) → textInForce (movedType by t) ≡ textInForce t
 text-moved by noType = refl
 text-moved by (typeAt at text) = refl
+
+pub value-moved : (by : ℕ → ℕ) (r : Record) → ownValue (movedBy by r) ≡ ownValue r
+unfolding movedBy
+value-moved by r = ap (λ text. found (r .content .header) (r .content .payload) (cond (eqb (r .content .header .«data_type») (code "?")) (kept text) [])) (text-moved by (r .type))

@@ -1,3 +1,4 @@
 pub mod PutIn
-pub mod Met
+pub mod Rows
 pub mod OtherBytes
+pub mod OldReader
