@@ -1,6 +1,6 @@
 -- The relation admits every placement that demand 3 allows: at each item that is read, new items can be put in front of it, behind which it may be
 -- passed by, or entered if it is a container. And 262,148 is a length that no header writes. Assumes nothing.
-use Prim.Native.Nat.{ℕ, zero, suc, _+_, _*_, _/_, _<_, _≤_}
+use Prim.Native.Nat.{ℕ, zero, suc, _*_, _/_, _<_, _≤_}
 use mathlib.Core.Path.{_≡_, refl, sym, ap, _∙_, subst}
 use mathlib.Core.Logic.{_≢_}
 use mathlib.Core.Bool.{Bool, true, false, _&&_, _||_}
@@ -10,7 +10,6 @@ use native.Mathlib.Nat.{mul-div-cancel-left}
 use native.Mathlib.Omega.{arith}
 use borrow.Author.Tests.{eq-eqb, lt-ltb}
 use lib.Dec.{eqb, ltb}
-use lib.ListN.{length}
 use Rattle.foundation.specs.BigEndian.{AreBytes}
 use Rattle.klv.specs.declared.KLV.{KLV}
 use Rattle.klv.specs.Item.{dataLen, item, firstItem, Written, laidOut}

@@ -1,8 +1,8 @@
 -- A level with new items put in, wherever it stands: its walk comes to the old rows, moved, and the new ones among them. Assumes nothing.
-use Prim.Native.Nat.{ℕ, zero, suc, _+_, _-_, _*_, _<_, _≤_}
-use mathlib.Core.Path.{_≡_, refl, sym, ap, _∙_, subst}
-use mathlib.Core.Bool.{Bool, true, false}
-use mathlib.Core.List.{List, [], _∷_, _++_, map, map-append}
+use Prim.Native.Nat.{ℕ, _+_, _-_, _*_, _<_, _≤_}
+use mathlib.Core.Path.{_≡_, refl, sym, _∙_, subst}
+use mathlib.Core.Bool.{true, false}
+use mathlib.Core.List.{List, [], _++_, map, map-append}
 use native.Mathlib.Decide.{decLe}
 use native.Mathlib.Omega.{arith}
 use borrow.Author.Tests.{le-leb}
@@ -18,7 +18,7 @@ use Rattle.reading.specs.Walk.{Role, empty, container, typeItem, rowItem, roleO
 use Rattle.reading.proofs.Role.{role-empty, role-container, Means, role-means}
 use Rattle.reading.proofs.Walk.{node-accepted}
 use Rattle.newer_camera.specs.PutIn.{IsNew, IsOld, Matches, Reached, PutIn, nothing, new, behind, inside}
-use Rattle.newer_camera.specs.Rows.{keyOf, groupIn, ownRow, rowsFrom, putBefore, movedBy}
+use Rattle.newer_camera.specs.Rows.{keyOf, groupIn, rowsFrom, putBefore, movedBy}
 use Rattle.newer_camera.proofs.Put.{long, none-in, fours, new-level, old-level, behind-level, inside-level, put-low, put-high, agree-same, agree-key, agree-put}
 use Rattle.newer_camera.proofs.Grown.{Grown, then-grown, no-rows, not-type, new-grown, container-grown}
 use Rattle.newer_camera.proofs.Same.{Alike, alike-inside, alike-after, item-same, again}

@@ -3,11 +3,11 @@ use Prim.Native.Nat.{ℕ, zero, suc, _+_, _-_, _<_, _≤_}
 use mathlib.Core.Path.{_≡_, refl, sym, ap, _∙_, subst}
 use mathlib.Core.Logic.{_≢_}
 use mathlib.Core.Bool.{Bool, true, false, cond}
-use mathlib.Core.List.{List, [], _∷_, _++_, map}
+use mathlib.Core.List.{List, [], _∷_, _++_}
 use native.Mathlib.Nat.{not-suc-le-zero}
 use native.Mathlib.Decide.{decLe}
 use native.Mathlib.Omega.{arith}
-use borrow.Author.Tests.{eqb-false, ne-eqb}
+use borrow.Author.Tests.{ne-eqb}
 use lib.Dec.{eqb}
 use lib.ListN.{length, length-append}
 use Rattle.foundation.specs.Text.{key}
@@ -17,8 +17,8 @@ use Rattle.klv.specs.OneText.{typeText}
 use Rattle.klv.specs.Level.{Level}
 use Rattle.reading.specs.Refusal.{tooDeep, noRoom, deepest}
 use Rattle.reading.specs.Last.{Last, lastItem}
-use Rattle.reading.specs.Record.{Group, named, Record}
-use Rattle.reading.specs.Walk.{Role, empty, container, typeItem, rowItem, roleOf, headersFor, Spot, inside, recordOf, Entry, enter, refuse, groupInside, entry}
+use Rattle.reading.specs.Record.{named, Record}
+use Rattle.reading.specs.Walk.{Role, container, headersFor, Spot, inside, recordOf, refuse, groupInside}
 use Rattle.reading.specs.Walk.{Outcome, accepted, refused, inFront, andThen, around, rowOutcome, entered, byRole, itemOutcome, walk, walkItem}
 use Rattle.reading.proofs.Outcome.{around-accepted}
 use Rattle.reading.proofs.Role.{role-empty, role-row}

@@ -9,3 +9,4 @@ pub mod Unaltered
 pub mod NewerCamera
 pub mod Admits
 pub mod Samples
+pub mod WrongReaders

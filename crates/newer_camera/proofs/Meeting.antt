@@ -1,6 +1,6 @@
 -- How a newer camera's payload is met: accepted with every old row and the new items' own, or refused for its length or for want of room, and for
 -- nothing else. Assumes nothing.
-use Prim.Native.Nat.{ℕ, _+_, _<_, _≤_}
+use Prim.Native.Nat.{ℕ, _+_, _≤_}
 use mathlib.Core.Path.{_≡_, refl, sym, ap, _∙_, subst}
 use mathlib.Core.Bool.{false}
 use mathlib.Core.List.{List, [], _∷_, map, List·Memᴰ, List·Memᴰ·head, List·Memᴰ·tail, List·Memᴰ·not-nil}
@@ -15,7 +15,7 @@ use Rattle.reading.proofs.Payload.{read-long, read-within, read-accepted}
 use Rattle.reading.proofs.Stand.{Stands, read-stands}
 use Rattle.newer_camera.specs.PutIn.{PutIn}
 use Rattle.newer_camera.specs.Rows.{newRows, putBefore, movedBy, moved}
-use Rattle.newer_camera.specs.OldReader.{Among, neither, an-old, a-new, Kept, Accepted, TooMany, Met}
+use Rattle.newer_camera.specs.OldReader.{Among, neither, an-old, a-new, Kept, Met}
 use Rattle.newer_camera.proofs.Order.{read-in-order}
 use Rattle.newer_camera.proofs.Grown.{Grown}
 use Rattle.newer_camera.proofs.Grow.{grow}

@@ -1,5 +1,4 @@
--- AN OLD READER MEETS A NEWER CAMERA: demand 3, whole. Take a payload that is accepted with groups named by containers, and put new items into it; what
--- `OldReader` says of the result holds. From proofs/Meeting and proofs/Unaltered. Assumes nothing.
+-- AN OLD READER MEETS A NEWER CAMERA: demand 3, whole, from proofs/Meeting and proofs/Unaltered. Assumes nothing.
 use Prim.Native.Nat.{ℕ}
 use mathlib.Core.Path.{_≡_, ap}
 use mathlib.Core.Bool.{false}
@@ -8,12 +7,13 @@ use Rattle.reading.specs.Record.{Record}
 use Rattle.reading.specs.Walk.{accepted, readingOf}
 use Rattle.newer_camera.specs.PutIn.{PutIn}
 use Rattle.newer_camera.specs.OtherBytes.{putAgain}
-use Rattle.newer_camera.specs.OldReader.{OldReader}
+use Rattle.newer_camera.specs.OldReader.{MeetsNewerCameras}
 use Rattle.newer_camera.proofs.Meeting.{met}
 use Rattle.newer_camera.proofs.Unaltered.{old-unaltered, answer-unaltered}
 
-pub newer-camera : {s t : List ℕ} (put : PutIn s t) (room : ℕ) (rs : List Record) (headers : ℕ) → readingOf false s room ≡ accepted rs headers → OldReader put rs
-newer-camera put room rs headers e =
+-- the reading with groups named by containers
+pub newer-camera : MeetsNewerCameras (readingOf false)
+newer-camera s t put room rs headers e =
     record {
       met = met put room rs headers e;
       unaltered =

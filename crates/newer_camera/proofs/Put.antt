@@ -1,13 +1,12 @@
 -- What putting in does to lengths, places and the last item: bytes grow by whole fours, and the last item keeps its key. Assumes nothing.
 use Prim.Native.Nat.{ℕ, zero, suc, _+_, _*_, _/_, _<_, _≤_}
-use mathlib.Core.Path.{_≡_, refl, sym, ap, _∙_}
+use mathlib.Core.Path.{_≡_, refl, sym, _∙_}
 use mathlib.Core.List.{List, [], _∷_, _++_}
-use mathlib.Core.Bool.{cond}
 use native.Mathlib.Omega.{arith}
 use borrow.Author.Tests.{le-leb, lt-leb}
 use lib.ListN.{length, length-append}
 use Rattle.klv.specs.declared.KLV.{KLV}
-use Rattle.klv.specs.Item.{dataLen, aligned, nextAt, laidOut, Padded, whole, missing}
+use Rattle.klv.specs.Item.{aligned, nextAt, laidOut, Padded, whole, missing}
 use Rattle.klv.specs.Level.{Level, left, broken, node, itemsOf}
 use Rattle.klv.proofs.Laid.{items-laid}
 use Rattle.reading.specs.Refusal.{Refusal}

@@ -1,24 +1,24 @@
 -- The same items elsewhere: where all their places are moved by one distance, so are their rows. Assumes nothing.
 use Prim.Native.Nat.{ℕ, zero, suc, _+_, _-_, _<_, _≤_}
 use Prim.Native.Char.{code}
-use mathlib.Core.Path.{_≡_, refl, sym, ap, _∙_}
+use mathlib.Core.Path.{_≡_, refl, ap}
 use mathlib.Core.Bool.{Bool, true, false, cond}
-use mathlib.Core.List.{List, [], _∷_, _++_, map, map-append}
+use mathlib.Core.List.{List, [], _∷_, map, map-append}
 use native.Mathlib.Omega.{arith}
 use lib.Dec.{eqb}
 use lib.ListN.{length}
 use Rattle.klv.specs.declared.KLV.{KLV}
-use Rattle.klv.specs.Item.{dataLen, nextAt}
+use Rattle.klv.specs.Item.{dataLen}
 use Rattle.klv.specs.Level.{Level, left, broken, node, itemsOf}
 use Rattle.klv.proofs.Item.{item-lengths}
 use Rattle.klv.proofs.Level.{of-node}
 use Rattle.reading.specs.Last.{lastItem}
-use Rattle.reading.specs.Record.{Group, TypeInForce, noType, Record}
-use Rattle.reading.specs.Walk.{Role, empty, container, typeItem, rowItem, roleOf, headersFor, Spot, inside, typeAfter, after, typeShown, recordOf}
-use Rattle.reading.specs.Walk.{Outcome, accepted, rowOutcome, byRole, itemOutcome, walk, walkItem}
+use Rattle.reading.specs.Record.{Group, noType, Record}
+use Rattle.reading.specs.Walk.{Role, empty, container, typeItem, rowItem, roleOf, headersFor, Spot, inside, typeAfter, after, recordOf}
+use Rattle.reading.specs.Walk.{accepted, rowOutcome, byRole, itemOutcome, walk, walkItem}
 use Rattle.reading.proofs.Walk.{node-accepted}
 use Rattle.newer_camera.specs.Rows.{movedType, movedBy}
-use Rattle.newer_camera.specs.OldReader.{Among, neither, an-old}
+use Rattle.newer_camera.specs.OldReader.{neither, an-old}
 use Rattle.newer_camera.proofs.Put.{agree-same}
 use Rattle.newer_camera.proofs.Grown.{Grown, then-grown, no-rows, row-grown, container-grown}
 

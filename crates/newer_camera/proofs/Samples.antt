@@ -1,6 +1,6 @@
 -- Payloads with new items put in, as bytes: each clause of the relation and each placement that demand 3 names, with both readings computed by the
 -- definitions. Assumes nothing.
-use Prim.Native.Nat.{ℕ, _+_, _≤_}
+use Prim.Native.Nat.{ℕ, _≤_}
 use Prim.Native.Char.{code}
 use Prim.Native.String.{String}
 use mathlib.Core.Path.{_≡_, refl}
@@ -12,18 +12,18 @@ use lib.Dec.{leb}
 use lib.ListN.{length, drop}
 use Rattle.foundation.specs.BigEndian.{bytesOf}
 use Rattle.foundation.specs.Fuel.{run, fix}
-use Rattle.foundation.specs.Text.{key, characters}
+use Rattle.foundation.specs.Text.{key}
 use Rattle.keys.specs.Keys.{tags}
 use Rattle.keys.specs.Table.{found}
 use Rattle.klv.specs.declared.KLV.{KLV}
-use Rattle.klv.specs.Item.{firstItem, laidOut, whole, missing}
+use Rattle.klv.specs.Item.{firstItem, whole, missing}
 use Rattle.klv.specs.Level.{itemsOf}
 use Rattle.klv.specs.OneText.{oneText, typeText}
 use Rattle.reading.specs.Last.{lastItem}
 use Rattle.reading.specs.Record.{numbers, noPlace}
 use Rattle.reading.specs.Walk.{roleOf, itemOutcome, walk, readingOf}
 use Rattle.reading.specs.Answer.{Answer, rows, refusal, answer}
-use Rattle.newer_camera.specs.PutIn.{Fits, IsNew, IsOld, Matches, PutIn, nothing, new, behind, inside}
+use Rattle.newer_camera.specs.PutIn.{IsNew, IsOld, Matches, PutIn, nothing, new, behind, inside}
 use Rattle.newer_camera.specs.OtherBytes.{OtherBytes, in-nothing, in-new, behind-old, inside-old}
 
 -- ---- items
@@ -54,21 +54,21 @@ is-none = omega arith
 
 -- ---- case 12's payload: a STRM with a SCAL, and a GYRO without a payload, which names the group
 
-abbrev gyro : List ℕ
+abbrev pub gyro : List ℕ
 gyro = bytesOf 8 0x4759524f_73_06_0000
 
-abbrev stream : List ℕ
+abbrev pub stream : List ℕ
 stream = bytesOf 12 0x5343414c_73_02_0001_00010000 ++ gyro
 
-abbrev twelve : List ℕ
+abbrev pub twelve : List ℕ
 twelve = bytesOf 28 0x5354524d_00_01_0014_5343414c_73_02_0001_00010000_4759524f_73_06_0000
 
 -- in front of the first item in the container one of three bytes; in front of the empty last one two in a row, one of them empty
-abbrev grownStream : List ℕ
+abbrev pub grownStream : List ℕ
 grownStream = bytesOf 52 0x54485245_42_01_0003_010203ff_5343414c_73_02_0001_00010000_54485245_42_01_0003_04050600_4e4f4e45_4c_04_0000_4759524f_73_06_0000
 
 -- in front of the container one of three bytes; the container's 52 bytes are written as 26 × 2
-abbrev newer : List ℕ
+abbrev pub newer : List ℕ
 newer =
     bytesOf 72
     0x54485245_42_01_0003_07080900_5354524d_00_1a_0002_54485245_42_01_0003_010203ff_5343414c_73_02_0001_00010000_54485245_42_01_0003_04050600_4e4f4e45_4c_04_0000_4759524f_73_06_0000
@@ -96,16 +96,16 @@ in-twelve = new {s = twelve} (is-three 7 8 9 0) (some twelve refl) (inside is-st
 
 -- ---- a GYRO in a STRM in a DEVC, all without their padding; one in front of the STRM, and one in front of the GYRO, whose container's 21 bytes are 3 × 7
 
-abbrev lone : List ℕ
+abbrev pub lone : List ℕ
 lone = bytesOf 9 0x4759524f_42_01_0001_07
 
-abbrev grownLone : List ℕ
+abbrev pub grownLone : List ℕ
 grownLone = bytesOf 21 0x54485245_42_01_0003_04050600_4759524f_42_01_0001_07
 
-abbrev nested : List ℕ
+abbrev pub nested : List ℕ
 nested = bytesOf 25 0x44455643_00_01_0011_5354524d_00_01_0009_4759524f_42_01_0001_07
 
-abbrev grownNested : List ℕ
+abbrev pub grownNested : List ℕ
 grownNested = bytesOf 49 0x44455643_00_01_0029_54485245_42_01_0003_01020300_5354524d_00_03_0007_54485245_42_01_0003_04050600_4759524f_42_01_0001_07
 
 abbrev pub in-nested : PutIn nested grownNested
@@ -119,10 +119,10 @@ in-nested =
 
 -- ---- a TYPE and a `?` item without its padding; one in front of each
 
-abbrev described : List ℕ
+abbrev pub described : List ℕ
 described = bytesOf 21 0x54595045_63_01_0001_42000000_41424344_3f_01_0001_09
 
-abbrev grownDescribed : List ℕ
+abbrev pub grownDescribed : List ℕ
 grownDescribed = bytesOf 45 0x54485245_42_01_0003_010203ff_54595045_63_01_0001_42000000_54485245_42_01_0003_040506ff_41424344_3f_01_0001_09
 
 abbrev pub in-described : PutIn described grownDescribed
@@ -133,10 +133,10 @@ in-described =
 
 -- ---- an empty item, and seven bytes that the walk ignores: in front of the item, and not of those
 
-abbrev ignored : List ℕ
+abbrev pub ignored : List ℕ
 ignored = bytesOf 15 0x4759524f_73_06_0000_ffffffffffffff
 
-abbrev grownIgnored : List ℕ
+abbrev pub grownIgnored : List ℕ
 grownIgnored = bytesOf 23 0x4e4f4e45_4c_04_0000_4759524f_73_06_0000_ffffffffffffff
 
 abbrev pub in-ignored : PutIn ignored grownIgnored

@@ -1,28 +1,26 @@
 -- Other payload bytes in new items: every old row stands where it stood, and the whole answer, in numbers, is the same. Assumes nothing.
-use Prim.Native.Nat.{ℕ, zero, suc, _+_, _-_, _<_, _≤_}
+use Prim.Native.Nat.{ℕ, zero, suc, _+_, _-_}
 use mathlib.Core.Path.{_≡_, refl, sym, ap, _∙_}
 use mathlib.Core.Bool.{Bool, true, false, cond}
 use mathlib.Core.List.{List, [], _∷_, _++_, map, map-append}
-use native.Mathlib.Decide.{decLe}
 use native.Mathlib.Omega.{arith}
 use lib.Dec.{ltb}
 use lib.ListN.{length}
 use Rattle.klv.specs.declared.KLV.{KLV}
-use Rattle.klv.specs.Item.{dataLen, aligned, nextAt, laidOut, Padded, whole, missing}
-use Rattle.klv.specs.Level.{Level, node, itemsOf}
-use Rattle.reading.specs.Refusal.{Refusal, tooLong, number, mostBytes}
+use Rattle.klv.specs.Item.{nextAt, whole}
+use Rattle.klv.specs.Level.{Level, itemsOf}
+use Rattle.reading.specs.Refusal.{tooLong, number, mostBytes}
 use Rattle.reading.specs.Last.{Last, last, orElse, lastItem}
 use Rattle.reading.specs.Record.{TypeInForce, Record, numbers}
 use Rattle.reading.specs.Walk as Walk
 use Rattle.reading.specs.Walk.{Role, empty, container, typeItem, rowItem, roleOf, headersFor, Spot, outermost, after, recordOf, Entry, enter, refuse, entry}
 use Rattle.reading.specs.Walk.{Outcome, accepted, refused, inFront, andThen, around, rowOutcome, entered, byRole, itemOutcome, walk, walkItem, readingOf}
-use Rattle.reading.specs.Answer.{Answer, rows, refusal, answer}
-use Rattle.reading.proofs.Payload.{read-long, read-within}
+use Rattle.reading.specs.Answer.{refusal, answer}
 use Rattle.reading.proofs.Role.{Means, role-means}
-use Rattle.newer_camera.specs.PutIn.{IsNew, IsOld, Matches, PutIn, nothing, new, behind, inside}
+use Rattle.newer_camera.specs.PutIn.{IsNew, Matches, PutIn, inside}
 use Rattle.newer_camera.specs.Rows.{putBefore, movedBy, moved}
 use Rattle.newer_camera.specs.OtherBytes.{OtherBytes, in-nothing, in-new, behind-old, inside-old, putAgain}
-use Rattle.newer_camera.proofs.Put.{long, new-level, old-level, behind-level, inside-level}
+use Rattle.newer_camera.proofs.Put.{long, new-level, behind-level, inside-level}
 use Rattle.newer_camera.proofs.Grow.{new-keeps-type, container-keeps-type}
 
 -- ---- the old rows

@@ -2,7 +2,7 @@
 use Prim.Native.Nat.{ℕ, suc, _+_, _≤_, _<_}
 use Prim.Native.Char.{code}
 use mathlib.Core.Path.{_≡_}
-use mathlib.Core.Bool.{false, cond}
+use mathlib.Core.Bool.{cond}
 use mathlib.Core.List.{List, [], _∷_, map, List·Memᴰ}
 use lib.Dec.{eqb}
 use lib.ListN.{length}
@@ -10,7 +10,7 @@ use Rattle.klv.specs.declared.KLV.{KLV}
 use Rattle.klv.specs.Item.{payloadAt}
 use Rattle.reading.specs.Refusal.{tooLong, pastEnd, leftOver, tooDeep, noRoom, mostBytes}
 use Rattle.reading.specs.Record.{TypeInForce, noType, typeAt, Record, typePlace}
-use Rattle.reading.specs.Walk.{Outcome, accepted, refused, readingOf}
+use Rattle.reading.specs.Walk.{Outcome, accepted, refused}
 use Rattle.reading.specs.Answer.{answer}
 use Rattle.texts.specs.Kept.{kept}
 use Rattle.values.specs.At.{Found, found, foundAt}
@@ -85,16 +85,22 @@ Met put rs room (refused pastEnd at) = ⊥
 Met put rs room (refused leftOver at) = ⊥
 Met put rs room (refused tooDeep at) = ⊥
 
--- "Changing payload bytes of new items alters no old record": u is t with other payload bytes in new items
-pub record Unaltered {s t u : List ℕ} {put : PutIn s t} (o : OtherBytes s t put u) (rs : List Record) (room : ℕ) : Type 0 where
-  -- u is met as t is
-  pub met : Met (putAgain o) rs room (readingOf false u room)
-  -- with the same old rows, places and all
-  pub old-rows : map (moved (putAgain o)) rs ≡ map (moved put) rs
-  -- and the very same numbers for every row, or the same refusal
-  pub same-answer : answer (readingOf false u room) ≡ answer (readingOf false t room)
+-- ---- a reader: what it makes of a payload, with so much room
+module _ (reads : List ℕ → ℕ → Outcome) where
+  -- "Changing payload bytes of new items alters no old record": u is t with other payload bytes in new items
+  pub record Unaltered {s t u : List ℕ} {put : PutIn s t} (o : OtherBytes s t put u) (rs : List Record) (room : ℕ) : Type 0 where
+    -- u is met as t is
+    pub met : Met (putAgain o) rs room (reads u room)
+    -- with the same old rows, places and all
+    pub old-rows : map (moved (putAgain o)) rs ≡ map (moved put) rs
+    -- and the very same numbers for every row, or the same refusal
+    pub same-answer : answer (reads u room) ≡ answer (reads t room)
 
--- AN OLD READER MEETS A NEWER CAMERA, with whatever room is lent
-pub record OldReader {s t : List ℕ} (put : PutIn s t) (rs : List Record) : Type 0 where
-  pub met : (room : ℕ) → Met put rs room (readingOf false t room)
-  pub unaltered : {u : List ℕ} (o : OtherBytes s t put u) (room : ℕ) → Unaltered o rs room
+  -- with whatever room is lent
+  pub record OldReader {s t : List ℕ} (put : PutIn s t) (rs : List Record) : Type 0 where
+    pub met : (room : ℕ) → Met put rs room (reads t room)
+    pub unaltered : {u : List ℕ} (o : OtherBytes s t put u) (room : ℕ) → Unaltered o rs room
+
+  -- AN OLD READER MEETS A NEWER CAMERA: "Take a payload accepted .. Put new items in .."
+  abbrev pub MeetsNewerCameras : Type 0
+  MeetsNewerCameras = (s t : List ℕ) (put : PutIn s t) (room : ℕ) (rs : List Record) (headers : ℕ) → reads s room ≡ accepted rs headers → OldReader put rs

@@ -1,0 +1,122 @@
+-- Readers that do not meet newer cameras, each with the payload that shows it: the right reader, changed in one thing. Assumes nothing.
+use Prim.Native.Nat.{ℕ, suc, _+_}
+use mathlib.Core.Path.{_≡_, refl, subst}
+use mathlib.Core.Logic.{_≢_}
+use mathlib.Core.Bool.{Bool, false, cond}
+use mathlib.Core.List.{List, [], _∷_, map}
+use native.Mathlib.Omega.{arith}
+use lib.Dec.{eqb}
+use lib.ListN.{length}
+use Rattle.foundation.specs.Fuel.{run, fix}
+use Rattle.keys.specs.Keys.{tags, tagOf}
+use Rattle.keys.specs.Table.{found}
+use Rattle.klv.specs.Item.{firstItem, aligned}
+use Rattle.klv.specs.Level.{itemsOf}
+use Rattle.klv.specs.OneText.{oneText, typeText}
+use Rattle.reading.specs.Last.{lastItem}
+use Rattle.reading.specs.Refusal.{leftOver}
+use Rattle.reading.specs.Record.{Group, callers, named, TypeInForce, noType, typeAt, Record, typePlace, groupKey}
+use Rattle.reading.specs.Walk.{roleOf, Outcome, accepted, refused, itemOutcome, walk, readingOf}
+use Rattle.newer_camera.specs.PutIn.{PutIn}
+use Rattle.newer_camera.specs.Rows.{rowsFrom, newRows, putBefore, movedBy, moved}
+use Rattle.newer_camera.specs.OldReader.{Among, neither, an-old, a-new, Met, MeetsNewerCameras}
+use Rattle.newer_camera.proofs.Samples.{twelve, newer, in-twelve, described, grownDescribed, in-described}
+
+-- ---- the readers
+
+abbrev onRows : (List Record → Outcome) → Outcome → Outcome
+onRows f (accepted rs headers) = f rs
+onRows f (refused why at) = refused why at
+
+-- the right reading, with something else made of its rows
+abbrev pub reading : (List Record → Outcome) → List ℕ → ℕ → Outcome
+reading f s room = onRows f (readingOf false s room)
+
+-- accepted, with other rows
+abbrev pub made : (List Record → List Record) → List Record → Outcome
+made f rs = accepted (f rs) 0
+
+-- a row whose key has no tag
+abbrev unknown : Record → Bool
+unknown r = eqb (tagOf (r .content .header .key)) 0
+
+-- one that refuses what it does not know
+abbrev pub refusing : List Record → Outcome
+refusing [] = accepted [] 0
+refusing (r ∷ rs) = cond (unknown r) (refused leftOver 0) (refusing rs)
+
+-- one that leaves it out
+abbrev pub leavingOut : List Record → List Record
+leavingOut [] = []
+leavingOut (r ∷ rs) = cond (unknown r) (leavingOut rs) (r ∷ leavingOut rs)
+
+-- one for which it ends the level
+abbrev pub ending : List Record → List Record
+ending [] = []
+ending (r ∷ rs) = cond (unknown r) [] (r ∷ ending rs)
+
+abbrev withGroupAndDepth : Group → ℕ → Record → Record
+withGroupAndDepth group depth r =
+    record { place = r .place; type = r .type; content = record { group = group; depth = depth; header = r .content .header; payload = r .content .payload } }
+
+-- one whose rows carry their ordinals
+abbrev pub counting : ℕ → List Record → List Record
+counting n [] = []
+counting n (r ∷ rs) = withGroupAndDepth (r .content .group) n r ∷ counting (suc n) rs
+
+-- one that names a group by its first row
+abbrev firstOf : ℕ → List Record → ℕ
+firstOf k [] = 0
+firstOf k (r ∷ rs) = cond (eqb (groupKey (r .content .group)) k) (r .content .header .key) (firstOf k rs)
+
+abbrev renamed : List Record → Group → Group
+renamed rs callers = callers
+renamed rs (named k) = named (firstOf k rs)
+
+abbrev pub byFirst : List Record → List Record
+byFirst rs = map (λ (r : Record). withGroupAndDepth (renamed rs (r .content .group)) (r .content .depth) r) rs
+
+-- one that forgets a TYPE at the next item
+abbrev rightBehind : ℕ → TypeInForce → TypeInForce
+rightBehind place noType = noType
+rightBehind place (typeAt at text) = cond (eqb (at + 8 + aligned (length text)) place) (typeAt at text) noType
+
+abbrev pub forgetting : List Record → List Record
+forgetting rs = map (λ (r : Record). record { place = r .place; type = rightBehind (r .place) (r .type); content = r .content }) rs
+
+-- ---- what shows it: anything counted over all rows is what the old and the new rows come to
+
+abbrev total : (Record → ℕ) → List Record → ℕ
+total f [] = 0
+total f (r ∷ rs) = f r + total f rs
+
+among-total : (f : Record → ℕ) {olds news rows : List Record} → Among olds news rows → total f rows ≡ total f olds + total f news
+among-total f neither = refl
+among-total f (an-old m) = let e = among-total f m in omega arith
+among-total f (a-new m) = let e = among-total f m in omega arith
+
+shows : (reads : List ℕ → ℕ → Outcome) {s t : List ℕ} (put : PutIn s t) (room : ℕ) (rs rows : List Record) (j k : ℕ) (f : Record → ℕ) → reads s room ≡ accepted rs j → reads t room ≡ accepted rows k
+    → total f rows ≢ total f (map (moved put) rs) + total f (newRows put) → MeetsNewerCameras reads → ⊥
+shows reads {s = s} {t = t} put room rs rows j k f before after no-sum meets =
+    no-sum (among-total f (subst (λ (o : Outcome). Met put rs room o) after (meets s t put room rs j before .met room) .rows-are))
+
+-- THEY ARE SHUT OUT
+pub record ShutOut : Type 0 where
+  pub refusing-out : MeetsNewerCameras (reading refusing) → ⊥
+  pub leaving-out : MeetsNewerCameras (reading (made leavingOut)) → ⊥
+  pub ending-out : MeetsNewerCameras (reading (made ending)) → ⊥
+  pub counting-out : MeetsNewerCameras (reading (made (counting 0))) → ⊥
+  pub by-first-out : MeetsNewerCameras (reading (made byFirst)) → ⊥
+  pub forgetting-out : MeetsNewerCameras (reading (made forgetting)) → ⊥
+
+pub shut-out : ShutOut
+unfolding fix run found tags firstItem itemsOf oneText typeText lastItem roleOf itemOutcome walk readingOf rowsFrom putBefore movedBy
+shut-out =
+    record {
+      refusing-out = λ meets. meets twelve newer in-twelve 4 _ _ refl .met 4;
+      leaving-out = shows (reading (made leavingOut)) in-twelve 4 _ _ _ _ (λ (r : Record). 1) refl refl (λ z. omega arith);
+      ending-out = shows (reading (made ending)) in-twelve 4 _ _ _ _ (λ (r : Record). 1) refl refl (λ z. omega arith);
+      counting-out = shows (reading (made (counting 0))) in-described 3 _ _ _ _ (λ (r : Record). r .content .depth) refl refl (λ z. omega arith);
+      by-first-out = shows (reading (made byFirst)) in-twelve 4 _ _ _ _ (λ (r : Record). groupKey (r .content .group)) refl refl (λ z. omega arith);
+      forgetting-out = shows (reading (made forgetting)) in-described 3 _ _ _ _ (λ (r : Record). typePlace (r .type)) refl refl (λ z. omega arith);
+    }
