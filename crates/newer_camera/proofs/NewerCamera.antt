@@ -1,11 +1,9 @@
 -- AN OLD READER MEETS A NEWER CAMERA: demand 3, whole, from proofs/Meeting and proofs/Unaltered. Assumes nothing.
-use Prim.Native.Nat.{ℕ}
-use mathlib.Core.Path.{_≡_, ap}
+use mathlib.Core.Path.{ap}
 use mathlib.Core.Bool.{false}
-use mathlib.Core.List.{List, map}
+use mathlib.Core.List.{map}
 use Rattle.reading.specs.Record.{Record}
-use Rattle.reading.specs.Walk.{accepted, readingOf}
-use Rattle.newer_camera.specs.PutIn.{PutIn}
+use Rattle.reading.specs.Walk.{readingOf}
 use Rattle.newer_camera.specs.OtherBytes.{putAgain}
 use Rattle.newer_camera.specs.OldReader.{MeetsNewerCameras}
 use Rattle.newer_camera.proofs.Meeting.{met}

@@ -20,7 +20,7 @@ use Rattle.reading.specs.Walk.{roleOf, Outcome, accepted, refused, itemOutcome,
 use Rattle.newer_camera.specs.PutIn.{PutIn}
 use Rattle.newer_camera.specs.Rows.{rowsFrom, newRows, putBefore, movedBy, moved}
 use Rattle.newer_camera.specs.OldReader.{Among, neither, an-old, a-new, Met, MeetsNewerCameras}
-use Rattle.newer_camera.proofs.Samples.{twelve, newer, in-twelve, described, grownDescribed, in-described}
+use Rattle.newer_camera.proofs.Samples.{twelve, newer, in-twelve, in-described}
 
 -- ---- the readers
 
