@@ -135,6 +135,12 @@ use Rattle.durations.proofs.get_avg_sample_duration.Kinds as get-avg-sample-dur
 use Rattle.durations.proofs.get_avg_sample_duration.Reads as get-avg-sample-duration-reads
 use Rattle.elements.proofs.exact_at.Kinds as exact-at-kinds
 use Rattle.elements.proofs.exact_at.Reads as exact-at-reads
+use Rattle.take.proofs.put_packet.Kinds as put-packet-kinds
+use Rattle.take.proofs.put_packet.Reads as put-packet-reads
+use Rattle.take.proofs.put_long_packet.Kinds as put-long-packet-kinds
+use Rattle.take.proofs.put_long_packet.Reads as put-long-packet-reads
+use Rattle.take.proofs.put_totals.Kinds as put-totals-kinds
+use Rattle.take.proofs.put_totals.Reads as put-totals-reads
 
 -- a promise over n lifetimes, parameters and a result settles the result
 abbrev pub OneResult : (n : ℕ) (parameters : List (PK n)) (result : RK n) → Out n parameters result → Type 0
@@ -343,3 +349,16 @@ get-avg-sample-duration κs a x y s t p q = p ∙ sym q
 
 pub exact-at : OneResult 1 exact-at-kinds.ps exact-at-kinds.r exact-at-reads.Learnt
 exact-at κs a x y s t p q = p ∙ sym q
+
+-- the lent numbers and the buffer
+pub put-packet : OneAnswer {B = List ℕ × List ℕ} 3 put-packet-kinds.ps put-packet-kinds.r put-packet-reads.Learnt (λ κs s. (now (s .1 .1 .1 .1 .0), now (s .1 .1 .1 .1 .1 .0)))
+put-packet κs a x y s t p q = (
+  λ i. record { end = (p .lays .is ∙ sym (q .lays .is)) i; accepted = (p .is ∙ sym (q .is)) i },
+  λ i. ((p .rows ∙ sym (q .rows)) i, (p .lays .leaves ∙ sym (q .lays .leaves)) i),
+)
+
+pub put-long-packet : OneAnswer 1 put-long-packet-kinds.ps put-long-packet-kinds.r put-long-packet-reads.Learnt (λ κs s. now (s .1 .1 .1 .1 .0))
+put-long-packet κs a x y s t p q = (p .is ∙ sym (q .is), p .leaves ∙ sym (q .leaves))
+
+pub put-totals : OneAnswer 1 put-totals-kinds.ps put-totals-kinds.r put-totals-reads.Learnt (λ κs s. now (s .0))
+put-totals κs a x y s t p q = (p .is ∙ sym (q .is), p .leaves ∙ sym (q .leaves))
