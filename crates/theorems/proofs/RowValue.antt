@@ -9,21 +9,14 @@ use mathlib.Core.Bool.{Bool, true, false, cond}
 use mathlib.Core.List.{List, [], _∷_, List·Memᴰ}
 use native.Mathlib.Decide.{decLe}
 use native.Mathlib.Omega.{arith}
-use borrow.Author.Tests.{ne-eqb, lt-ltb, le-ltb}
 use lib.Dec.{eqb, leb, ltb}
 use lib.ListN.{length, drop}
 use Rattle.klv.specs.declared.KLV.{KLV}
-use Rattle.klv.specs.declared.Header.the-variants.{Item}
-use Rattle.klv.specs.Item.{dataLen, item, firstItem, nextAt}
-use Rattle.klv.proofs.Item.{item-lengths}
-use Rattle.klv.proofs.Place.{at-item, first-item}
 use Rattle.elements.specs.Types.{widthOf}
-use Rattle.texts.specs.Kept.{kept}
 use Rattle.texts.specs.Texts.{areWellFormed}
 use Rattle.reading.specs.Record.{TypeInForce, noType, typeAt, Record, typePlace}
 use Rattle.reading.specs.Walk.{rowItem, accepted, readingOf}
 use Rattle.reading.proofs.Payload.{read-long}
-use Rattle.reading.proofs.Role.{Means, role-means}
 use Rattle.reading.proofs.Stand.{ItemStands, InForceStands, Stands, read-stands}
 use Rattle.dates.specs.declared.Date.{Date}
 use Rattle.dates.specs.declared.Date.the-variants.{Milliseconds, TooFew, Unreadable}
@@ -33,63 +26,13 @@ use Rattle.values.specs.declared.plan.Plan.{Plan}
 use Rattle.values.specs.declared.plan.Plan.the-variants as plan
 use Rattle.values.specs.declared.grid.Grid.{Grid}
 use Rattle.values.specs.Value.{Value, Outcome, readable, refused, placed, gridded, unknown, texts, dated, widthsOf, structured, structures, reading, planOf, valueBy, valueOf}
-use Rattle.values.specs.At.{named, typeFor, found, foundBy, foundAt, wholeIf}
-use Rattle.values.specs.At as At
-
--- the TYPE text that a row's value is read by, without its trailing zeros: only a `?` item asks for one
-abbrev pub textFor : KLV → TypeInForce → List ℕ
-textFor h noType = []
-textFor h (typeAt at text) = cond (eqb (h .«data_type») (code "?")) (kept text) []
+use Rattle.values.specs.At.{found, foundAt}
+use Rattle.newer_camera.specs.OldReader.{textFor}
+use Rattle.newer_camera.proofs.Value.{found-there}
 
 -- a row's value: of its header, its payload and its TYPE text, and of nothing else
 abbrev pub rowValue : Record → Outcome
 rowValue r = valueOf (r .content .header) (r .content .payload) (textFor (r .content .header) (r .type))
-
-module _ (s : List ℕ) (within : length s ≤ 1048576) where
-  -- an item that stands at a place stands first from there on, and is as long as its header says
-  first : (at : ℕ) (h : KLV) (payload : List ℕ) → ItemStands s at h payload → firstItem (drop at s) ≡ item h payload (drop (nextAt at h) s)
-  first at h payload there = first-item s at h (there .header) ∙ ap (λ (p : List ℕ). item h p (drop (nextAt at h) s)) (there .payload-is)
-
-  long : (at : ℕ) (h : KLV) (payload : List ℕ) → ItemStands s at h payload → length payload ≡ dataLen h
-  long at h payload there = item-lengths (drop at s) h payload (drop (nextAt at h) s) (first at h payload there) .is-data
-
-  -- the TYPE in force is the text named by its place
-  named-there : (t : TypeInForce) → InForceStands s t → (h : KLV) → typeFor (h .«data_type») s (typePlace t) ≡ named (textFor h t)
-  unfolding At.typeAt
-  named-there noType stands h = both (eqb (h .«data_type») (code "?"))
-    where
-      both : (b : Bool) → cond b (named []) (named []) ≡ named []
-      both true = refl
-      both false = refl
-  named-there (typeAt at text) stands h = go (eqb (h .«data_type») (code "?"))
-    where
-      at-small : at ≢ 4294967295
-      at-small e = let f = at-item s at (stands .header) (stands .item .header) .fits in omega (arith, f, within)
-
-      some : 0 < length text
-      some = let l = long at (stands .header) text (stands .item) in let n = stands .not-empty in omega arith
-
-      is : At.typeAt s at ≡ named (kept text)
-      is = rw (ne-eqb at 4294967295 at-small, first at (stands .header) text (stands .item), stands .one-text, lt-ltb 0 (length text) some)
-
-      go : (b : Bool) → cond b (At.typeAt s at) (named []) ≡ named (cond b (kept text) [])
-      go true = is
-      go false = refl
-
-  -- what is found at a record's places
-  found-there : (r : Record) → Stands s r → foundAt s (r .place) (typePlace (r .type)) ≡ found (r .content .header) (r .content .payload) (textFor (r .content .header) (r .type))
-  unfolding foundAt
-  found-there r stands = rw (le-ltb 1048576 (length s) within, first (r .place) (r .content .header) (r .content .payload) (stands .item)) (go (r .content .payload) some)
-    where
-      h : KLV
-      h = r .content .header
-
-      some : 0 < length (r .content .payload)
-      some = let m : Means h rowItem = subst (Means h) (stands .row) (role-means h) in let l = long (r .place) h (r .content .payload) (stands .item) in let n = m .0 in omega arith
-
-      go : (payload : List ℕ) → 0 < length payload → foundBy (item h payload (drop (nextAt (r .place) h) s)) s (r .place) (typePlace (r .type)) ≡ found h payload (textFor h (r .type))
-      go [] l = absurd (omega arith)
-      go (b ∷ p) l = ap (λ n. wholeIf n h (b ∷ p) (r .place)) (named-there (r .type) (stands .type) h)
 
 -- a payload that is accepted is within the limit
 accepted-within : (forced : Bool) (s : List ℕ) (room : ℕ) (rs : List Record) (headers : ℕ) → readingOf forced s room ≡ accepted rs headers → length s ≤ 1048576
