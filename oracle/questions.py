@@ -373,6 +373,16 @@ def payloads(draw, times):
     yield from random_walks(draw, times)
 
 
+def description_samples(_):
+    """The samples of the GPMF description: padding, a device, a stream of acceleration, a structure; alone and in one device."""
+    colours = item(b"RGB8", ord("B"), 3, 3, bytes(range(1, 10)))
+    device = [one(b"DVID", ord("L"), bytes.fromhex("00001001")), item(b"DVNM", ord("c"), 1, 6, b"Camera")]
+    acceleration = [one(b"SCAL", ord("s"), bytes.fromhex("01a2")), one(b"SIUN", ord("c"), b"m/s\xb2"), item(b"ACCL", ord("s"), 6, 2, bytes.fromhex("0001fffe7fff800000000102"))]
+    structure = [item(b"TYPE", ord("c"), 1, 5, b"Lffff"), item(b"FACE", ord("?"), 20, 2, b"".join(struct.pack(">I4f", n, 0.5, -0.25, 1e9, n) for n in (1, 2)))]
+    payloads = [colours, stream(device), stream(acceleration), stream(structure), stream([*device, stream(acceleration), stream(structure), colours])]
+    return (ask_walk(payload, forced) for payload in payloads for forced in (0, 1))
+
+
 def walks(draw, times):
     return (ask_walk(payload, forced) for payload in payloads(draw, times) for forced in (0, 1))
 
@@ -525,6 +535,7 @@ REPLAY = {
     "texts": texts,
     "expand": expansions,
     "structures": structures,
+    "samples": lambda draw, times: description_samples(draw),
     "walk": walks,
     "last": last_items,
     "none": lambda draw, times: no_questions(draw),
