@@ -5,6 +5,7 @@ use Prim.Native.String.{String}
 use mathlib.Core.Path.{_≡_, refl}
 use mathlib.Core.Bool.{Bool, true, false}
 use mathlib.Core.List.{List, [], _∷_, map, flatten}
+use lib.ListN.{length}
 use Rattle.foundation.specs.BigEndian.{bytesOf}
 use Rattle.foundation.specs.Fuel.{run, fix}
 use Rattle.foundation.specs.Text.{characters}
@@ -12,7 +13,8 @@ use Rattle.klv.specs.Item.{firstItem}
 use Rattle.klv.specs.Level.{itemsOf}
 use Rattle.klv.specs.OneText.{oneText, typeText}
 use Rattle.reading.specs.Last.{lastItem}
-use Rattle.reading.specs.Walk.{roleOf, itemOutcome, walk, readingOf}
+use Rattle.reading.specs.Refusal.{tooLong}
+use Rattle.reading.specs.Walk.{refused, roleOf, itemOutcome, walk, readingOf}
 use Rattle.text.specs.Numerals.{decimal}
 use Rattle.listing.specs.Line.{shownKey, columns}
 use Rattle.listing.specs.Listing.{answerLine}
@@ -53,3 +55,9 @@ prints =
 pub are-printed : map (λ (c : List ℕ × String). c .0) prints ≡ map (λ (c : List ℕ × String). characters (c .1)) prints
 unfolding fix run flatten firstItem itemsOf oneText typeText lastItem roleOf itemOutcome walk readingOf decimal shownKey columns answerLine
 are-printed = refl
+
+-- a packet over what is held is printed as any that is refused with 1 at 0
+pub long-as-refused : (whole : Bool) (number place room : ℕ) (s : List ℕ) → longPacket whole number place (length s) ≡ packet whole number place s room (refused tooLong 0)
+unfolding fix run firstItem itemsOf walk readingOf
+long-as-refused true number place room s = refl
+long-as-refused false number place room s = refl

@@ -7,11 +7,11 @@ use mathlib.Core.Bool.{Bool, true, false}
 use mathlib.Core.List.{List, [], _∷_, _++_}
 use lib.ListN.{length, take}
 use Rattle.foundation.specs.Text.{characters}
+use Rattle.reading.specs.Refusal.{tooLong}
 use Rattle.reading.specs.Walk.{Outcome, accepted, refused, readingOf, roomOf}
 use Rattle.reading.specs.Answer.{lent}
 use Rattle.text.specs.Numerals.{decimal}
-use Rattle.metadata.specs.declared.Metadata.the-variants.{Rows, Refused}
-use Rattle.listing.specs.Listing.{answerLine, listing}
+use Rattle.listing.specs.Listing.{listing}
 use Rattle.listing.specs.Lines.{laidLines, behindLines}
 
 -- ---- the parts of what is printed, one behind the other
@@ -38,10 +38,10 @@ packet whole number place payload room (accepted rs headers) = packetLine number
 packet true number place payload room (refused why at) = []
 packet false number place payload room (refused why at) = packetLine number place (length payload) ++ (listing (refused why at) ++ front payload room at)
 
--- A PACKET OVER WHAT IS HELD: refused with 1 at 0, and nothing stands before 0
+-- A PACKET OVER WHAT IS HELD, by its length: "refused with 1 at 0", before which nothing stands
 abbrev pub longPacket : Bool → ℕ → ℕ → ℕ → List (List ℕ)
 longPacket true number place bytes = []
-longPacket false number place bytes = packetLine number place bytes ++ (answerLine (Refused 1 0) ∷ characters "front " ∷ answerLine (Rows 0 0) ∷ [])
+longPacket false number place bytes = packetLine number place bytes ++ (listing (refused tooLong 0) ++ (characters "front " ∷ listing (accepted [] 0)))
 
 -- whether a packet counts as read
 abbrev pub isAccepted : Outcome → Bool

@@ -61,6 +61,9 @@ pub fn put_packet(
     }
 }
 
+// The refusal of a payload over the limit.
+const TOO_LONG: u32 = 1;
+
 // Lays a packet of more bytes than are held: refused with 1 at 0.
 pub fn put_long_packet(
     number: u64,
@@ -80,7 +83,7 @@ pub fn put_long_packet(
         out,
         line,
         Metadata::Refused {
-            number: 1,
+            number: TOO_LONG,
             place: 0,
         },
     );
