@@ -1,10 +1,13 @@
 #!/usr/bin/env python3
-"""newer_camera.py SEED PAIRS COMMAND [WORD ..]: an old reader meets a newer camera (demand 3), by running.
+"""newer_camera.py SEED COUNT: an old reader meets a newer camera (demand 3), by running our programs `take` and `replay`.
 
-Makes payloads with groups named by containers, puts new items in front of items that the walk reaches, at any depth, and asks the command
-(`./gpmf replay`, or the oracle) to walk each payload before and after. Where the first is accepted, so must the second be; every old entry
-must be there as it was, with its group, tag, key, bytes and value; the rest must be the new items with a payload, in the group of their
-level; and the headers must be more by one for each new outermost item and two for each below. Exit 1 at a difference, with the first three."""
+Makes COUNT payloads with groups named by containers and puts new items in front of items that the walk reaches, at any depth. Each payload is read
+three times: as it was, with the new items, and with other payload bytes in the new items. The rows that `./gpmf take` lists must be, one by one and
+in order: every old row with its group, key, type, size, repeat and depth, its bytes at its new place; and one for each new item with a payload, in the
+group of its level; and the same rows again with the other bytes. The headers must be more by one for each new outermost item and two for each
+below. Where new keys are unlike all old ones, `./gpmf replay` must also give every old entry as it was, with its value. Other commands than ./gpmf
+are given by TAKE and REPLAY in the environment. Exit 1 at a difference, with the first three."""
+import os
 import random
 import subprocess
 import sys
@@ -47,9 +50,16 @@ class Item:
             self.key, self.data_type = draw.choice(OLD_KEYS), draw.choice(TYPES)
             self.payload = draw.randbytes(draw.choice((0, 1, 2, 4, 6, 12, 16, draw.randrange(40))))
         self.kept = 3  # bytes of padding at most
+        if self.inside is None:
+            self.size, self.repeat = fields(draw, len(self.payload))
 
-    def bytes(self, draw, payload):
-        return written(self.key, self.data_type, *fields(draw, len(payload)), payload) + padding(draw, len(payload))[: self.kept]
+    def bytes(self, draw):
+        return written(self.key, self.data_type, self.size, self.repeat, self.payload) + padding(draw, len(self.payload))[: self.kept]
+
+    def has_row(self):
+        """A TYPE of one text has none, and nothing of length 0 has."""
+        one_text = self.data_type == ord("F") or self.data_type == ord("c") and 1 in (self.size, self.repeat)
+        return len(self.payload) > 0 and not (self.key == b"TYPE" and one_text)
 
 
 def level(draw, depth, least=0):
@@ -60,74 +70,130 @@ def level(draw, depth, least=0):
     return items
 
 
-def new_item(draw, number):
-    """A new item, whole and padded, no container and not keyed TYPE: its bytes, and those of its padding."""
-    size = draw.choice((0, 1, 2, 4, draw.randrange(30), 255))
-    repeat = draw.choice((0, 1, 1, 2, 3) if size < 200 else (0, 1))
-    payload = draw.randbytes(size * repeat)
-    return written(NEW + number.to_bytes(3, "big"), draw.choice(TYPES + b"\1\xff"), size, repeat, payload), padding(draw, len(payload))
+class New:
+    """A new item, whole and padded, no container and not keyed TYPE, in a group; unlike says that no old item has such a key."""
+
+    def __init__(self, draw, group, number, unlike):
+        self.group = group
+        self.key = NEW + number.to_bytes(3, "big") if unlike else draw.choice(OLD_KEYS + [draw.randbytes(4)])
+        self.size = draw.choice((0, 1, 2, 4, draw.randrange(30), 255))
+        self.repeat = draw.choice((0, 1, 1, 2, 3) if self.size < 200 else (0, 1))
+        self.data_type = draw.choice(TYPES + b"\1\xff")
+        if self.key == b"TYPE":
+            self.key = b"NEWT"
+
+    def bytes(self, draw):
+        payload = draw.randbytes(self.size * self.repeat)
+        return written(self.key, self.data_type, self.size, self.repeat, payload) + padding(draw, len(payload))
 
 
-def both(draw, items, group, rate, news):
-    """A level before and after; `news` gets the group and the bytes of each new item."""
-    before = after = b""
+def read_thrice(draw, items, group, rate, unlike, news, depth=0):
+    """A level as it was, with new items and with other bytes in them, and its rows as they must be listed: `None` for an old one."""
+    versions, rows = [b"", b"", b""], []
     for old in items:
         while draw.random() < rate:
-            made, pad = new_item(draw, len(news))
-            news.append((group, made))
-            after += made + pad
+            new = New(draw, group, len(news), unlike)
+            news.append(new)
+            versions = [versions[0], versions[1] + new.bytes(draw), versions[2] + new.bytes(draw)]
+            if new.size * new.repeat:
+                rows.append(f"{group} {shown_key(new.key)} {new.data_type} {new.size} {new.repeat} {depth}")
         if old.inside is None:
-            bytes_before = bytes_after = old.bytes(draw, old.payload)
+            made = [old.bytes(draw)] * 3
+            rows += [None] * old.has_row()
         else:
-            named = old.inside[-1].key.hex() if old.inside else None
-            inner, grown = both(draw, old.inside, named, rate, news)
-            bytes_before, bytes_after = old.bytes(draw, inner), old.bytes(draw, grown)
-        before, after = before + bytes_before, after + bytes_after
-    return before, after
+            named = shown_key(old.inside[-1].key) if old.inside else "-"
+            insides, inner_rows = read_thrice(draw, old.inside, named, rate, unlike, news, depth + 1)
+            fields_before, fields_after = fields(draw, len(insides[0])), fields(draw, len(insides[1]))
+            pad = padding(draw, len(insides[0]))[: old.kept]
+            made = [written(old.key, 0, *size_and_repeat, inside) + pad
+                    for inside, size_and_repeat in zip(insides, (fields_before, fields_after, fields_after))]
+            rows += inner_rows
+        versions = [version + more for version, more in zip(versions, made)]
+    return versions, rows
 
 
-def pairs(draw, count):
-    """Payloads before and after, with the new items; left-over bytes behind the last one in some."""
-    while count:
-        news = []
+def shown_key(key):
+    return key.decode() if all(33 <= byte <= 126 for byte in key) else "x" + key.hex()
+
+
+class Meeting:
+    """A payload in its three versions, left-over bytes behind the last item in some; the rows that it must have; its new items."""
+
+    def __init__(self, draw):
+        self.unlike, self.news = draw.random() < 0.5, []
         items = level(draw, draw.randrange(5))
-        before, after = both(draw, items, "-", draw.choice((0.1, 0.4, 0.7)), news)
+        rate = draw.choice((0.1, 0.4, 0.7))
+        versions, self.rows = read_thrice(draw, items, "-", rate, self.unlike, self.news)
         rest = draw.randbytes(draw.randrange(8)) if draw.random() < 0.2 and not (items and items[-1].kept < 3) else b""
-        if len(after) < 8000:
-            count -= 1
-            yield before + rest, after + rest, news
+        self.versions = [version + rest for version in versions]
+        self.usable = len(versions[1]) < 8000 and all(b"DEVC" not in b"DEVC"[1:] + version + b"DEV" for version in self.versions)
+
+    def is_met(self, listed):
+        """Whether the three listings are what an old reader must make of it."""
+        before, after, again = ([line.split(" ", 1) for line in lines[1:]] for lines in listed)
+        if after != again or listed[1][0] != listed[2][0] or len(after) != len(self.rows):
+            return False
+        old = iter(before)
+        for (place, row), wanted in zip(after, self.rows):
+            if wanted is None:
+                place_before, wanted = next(old)
+                if bytes_at(self.versions[0], place_before, row) != bytes_at(self.versions[1], place, row):
+                    return False
+            if row != wanted:
+                return False
+        more = sum(1 if new.group == "-" else 2 for new in self.news)
+        return next(old, None) is None and headers(listed[1]) == headers(listed[0]) + more
 
 
-def is_met(before, after, news):
-    """Whether an answer is what an old reader must make of the new payload."""
-    if after[0] != "ok":
-        return False
-    entries = [word.split(",") for word in after[2:]]
-    of_new = {(entry[0], entry[4]) for entry in entries if entry[2].startswith(NEW.hex())}
-    old = [word for word, entry in zip(after[2:], entries) if not entry[2].startswith(NEW.hex())]
-    wanted = {(group, made.hex()) for group, made in news if len(made) > 8}
-    more = sum(1 if group == "-" else 2 for group, _ in news)
-    return old == before[2:] and of_new == wanted and int(after[1][2:]) == int(before[1][2:]) + more
+def bytes_at(payload, place, row):
+    """The bytes of a listed row's item: its header and its payload."""
+    size, repeat = row.split(" ")[3:5]
+    return payload[int(place) : int(place) + 8 + int(size) * int(repeat)]
+
+
+def headers(lines):
+    return int(lines[0].split(" ")[3])
+
+
+def command(name, *words):
+    return os.environ[name.upper()].split() if name.upper() in os.environ else ["./gpmf", name, *words]
+
+
+def listings(meetings):
+    """What `take` prints of each payload, in a raw file of them all: its lines below that of the packet."""
+    file = b"".join(b"DEVC\0\0\0\0" + version for meeting in meetings for version in meeting.versions)
+    printed = subprocess.run(command("take"), input=file, stdout=subprocess.PIPE, check=True).stdout.decode()
+    return [packet.splitlines()[1:] for packet in printed[: printed.rindex("packets ")].split("packet ")[1:]]
+
+
+def entries(payloads):
+    """What `replay` answers of each payload: the entries of its map, with their values."""
+    asked = "".join(f"walk 0 {payload.hex() or '-'}\n" for payload in payloads)
+    said = subprocess.run(command("replay"), input=asked.encode(), stdout=subprocess.PIPE, check=True).stdout.decode().splitlines()
+    return [[word for word in line.split(" ")[2:] if not word.split(",")[2].startswith(NEW.hex())] for line in said]
 
 
 def main():
-    seed, count, command = sys.argv[1], int(sys.argv[2]), sys.argv[3:]
-    made = list(pairs(random.Random(seed), count))
-    asked = "".join(f"walk 0 {payload.hex() or '-'}\n" for before, after, _ in made for payload in (before, after))
-    answers = subprocess.run(command, input=asked.encode(), stdout=subprocess.PIPE, check=True).stdout.decode().splitlines()
-    accepted = old = new = 0
-    bad = []
-    for (before, after, news), said, told in zip(made, answers[::2], answers[1::2], strict=True):
-        if said.startswith("ok"):
-            accepted, old, new = accepted + 1, old + said.count(" ") - 1, new + sum(len(item) > 8 for _, item in news)
-            if not is_met(said.split(" "), told.split(" "), news):
-                bad.append(f"{before.hex()}\n{after.hex()}\n{said}\n{told}")
-    print(f"seed {seed}: {count} pairs, {accepted} accepted before, {old} old entries, {new} new ones, {len(bad)} differences")
-    print("\n\n".join(bad[:3]), end="")
+    seed, count = sys.argv[1], int(sys.argv[2])
+    draw, meetings = random.Random(seed), []
+    while len(meetings) < count:
+        meeting = Meeting(draw)
+        if meeting.usable and meeting.versions[0]:
+            meetings.append(meeting)
+    listed = listings(meetings)
+    assert len(listed) == 3 * count and all(lines and lines[0].startswith("rows ") for lines in listed[::3]), "each payload is accepted"
+    bad = [meeting for meeting, lines in zip(meetings, zip(listed[::3], listed[1::3], listed[2::3])) if not meeting.is_met(lines)]
+    unlike = [meeting for meeting in meetings if meeting.unlike]
+    old_entries = [entries([meeting.versions[i] for meeting in unlike]) for i in range(3)]
+    bad += [meeting for meeting, before, after, again in zip(unlike, *old_entries, strict=True) if not before == after == again]
+    rows = sum(len(lines) - 1 for lines in listed[::3])
+    new = sum(row is not None for meeting in meetings for row in meeting.rows)
+    print(f"seed {seed}: {count} payloads, each accepted; {rows} old rows, {new} new ones; {sum(map(len, old_entries[0]))} entries with values; {len(bad)} differences")
+    print("\n\n".join("\n".join(version.hex() for version in meeting.versions) for meeting in bad[:3]), end="")
     sys.exit(bool(bad))
 
 
 if __name__ == "__main__":
-    if len(sys.argv) < 4:
+    if len(sys.argv) != 3:
         sys.exit(__doc__)
     main()

@@ -21,7 +21,7 @@ use Rattle.axes.specs.Back.{beyond, lettered, orientationIn}
 use Rattle.orientation.specs.declared.Oriented.{Oriented}
 use Rattle.orientation.specs.declared.Oriented.the-variants.{Is, Nothing, Refused}
 use Rattle.orientation.specs.Row.{firstOf}
-use Rattle.orientation.specs.Group.{orientationOfGroup}
+use Rattle.orientation.specs.Group.{orientationInGroup, orientationOfGroup}
 
 -- an item of a text of three characters, with its padding
 abbrev textItem : String → String → List ℕ
@@ -45,7 +45,7 @@ pub texts-of-a-group : (ofGyro (textItem "ORIN" "YxZ" ++ textItem "ORIO" "XYZ") 
     × (ofGyro (textItem "ORIN" "YxZ") (rowFor "ORIN" 0) 2 ≡ Refused 5 0)
     × (ofGyro (textItem "ORIN" "YxZ" ++ textItem "ORIO" "XXX") (rowFor "ORIN" 0 ++ rowFor "ORIO" 12) 2 ≡ axes (code "y") (code "y") (code "y"))
     × (ofGyro (textItem "ORIN" "YYZ" ++ textItem "ORIO" "XYZ") (rowFor "ORIN" 0 ++ rowFor "ORIO" 12) 2 ≡ Refused 10 0)
-unfolding orientationOfGroup lookupOf rowsOf lastFrom matching tags found foundAt firstItem planOf isQuaternions oneText widthOf kindOf letterPlan elementAt elementOf firstOf orientationsOf threeAscii entryOf beyond lettered orientationIn lt ofBits
+unfolding orientationOfGroup orientationInGroup lookupOf rowsOf lastFrom matching tags found foundAt firstItem planOf isQuaternions oneText widthOf kindOf letterPlan elementAt elementOf firstOf orientationsOf threeAscii entryOf beyond lettered orientationIn lt ofBits
 texts-of-a-group = (refl, refl, refl, refl, refl, refl)
 
 -- ---- a matrix
@@ -69,5 +69,5 @@ withTexts mtrx = ofGyro (textItem "ORIN" "YxZ" ++ textItem "ORIO" "XYZ" ++ mtrx)
 -- MTRX BEFORE THEM: nine numbers in a row; as a list, or as vectors, it serves for none, and the texts are not asked; two numbers in a row are refused
 pub matrix-of-a-group : (withTexts (matrixItem 36 1) ≡ axes (code "Z") (code "Y") (code "X")) × (withTexts (matrixItem 4 9) ≡ Nothing) × (withTexts (matrixItem 12 3) ≡ Nothing)
     × (withTexts (matrixItem 8 4) ≡ Refused 10 0)
-unfolding orientationOfGroup lookupOf rowsOf lastFrom matching tags found foundAt firstItem planOf isQuaternions oneText widthOf kindOf letterPlan elementAt elementOf firstOf orientationsOf threeAscii entryOf beyond lettered orientationIn lt ofBits
+unfolding orientationOfGroup orientationInGroup lookupOf rowsOf lastFrom matching tags found foundAt firstItem planOf isQuaternions oneText widthOf kindOf letterPlan elementAt elementOf firstOf orientationsOf threeAscii entryOf beyond lettered orientationIn lt ofBits
 matrix-of-a-group = (refl, refl, refl, refl)

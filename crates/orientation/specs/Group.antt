@@ -1,8 +1,10 @@
 -- The axes of a group's readings, found by lookup: its MTRX, and only where it has none its ORIN and ORIO, as the Rust's `process_map` takes them
 -- (document 01, Axes and durations; Refusal numbers, 5, 9 and 10; a value's own refusals as they come). Assumes nothing: these are definitions.
 use Prim.Native.Nat.{ℕ}
-use mathlib.Core.Bool.{Bool, true, false}
+use mathlib.Core.Bool.{Bool, true, false, cond}
 use mathlib.Core.List.{List}
+use lib.Dec.{ltb}
+use lib.ListN.{length}
 use Rattle.foundation.specs.Text.{key}
 use Rattle.keys.specs.Keys.{tagOf}
 use Rattle.axes.specs.declared.Orientation.{Orientation}
@@ -11,6 +13,7 @@ use Rattle.axes.specs.declared.Orientations.{Orientations}
 use Rattle.axes.specs.declared.Orientations.the-variants as orientations
 use Rattle.axes.specs.Matrix.{matrixOf, orientationsOf}
 use Rattle.axes.specs.Back.{orientationOf, orientationIn}
+use Rattle.reading.specs.Refusal.{mostBytes}
 use Rattle.rows.specs.declared.Found.{Found}
 use Rattle.rows.specs.declared.Found.the-variants as found
 use Rattle.rows.specs.Row.{rowOf}
@@ -94,9 +97,14 @@ module _ (s : List ℕ) where
   byGroup item.Nothing orin orio = byPair orin orio
   byGroup (item.Refused number place) orin orio = Refused number place
 
--- THE ORIENTATION of a group, given a payload and its rows
-unfoldable pub orientationOfGroup : List ℕ → List ℕ → ℕ → ℕ → ℕ → Oriented
-orientationOfGroup s rows count groupKind groupKey = byGroup s (of (key "MTRX")) (of (key "ORIN")) (of (key "ORIO"))
+-- of a payload within the limit
+unfoldable pub orientationInGroup : List ℕ → List ℕ → ℕ → ℕ → ℕ → Oriented
+orientationInGroup s rows count groupKind groupKey = byGroup s (of (key "MTRX")) (of (key "ORIN")) (of (key "ORIO"))
   where
     of : ℕ → Item
     of k = itemOf rows count groupKind groupKey k
+
+-- THE ORIENTATION of a group, given a payload and its rows (document 01, Refusal numbers, 1: "payload over the limit (place 0)")
+unfoldable pub orientationOfGroup : List ℕ → List ℕ → ℕ → ℕ → ℕ → Oriented
+orientationOfGroup s rows count groupKind groupKey =
+    cond (ltb mostBytes (length s)) (Refused 1 0) (orientationInGroup s rows count groupKind groupKey)

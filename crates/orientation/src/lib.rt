@@ -10,7 +10,7 @@ use values::Read;
 use values::Shaped;
 ghost use mathlib.Core.Path.{_≡_};
 ghost use Rattle.orientation.specs.Row.{formOf, byteOf, isSingle, singleOf, textBy, bytesOf, singlesOf};
-ghost use Rattle.orientation.specs.Group.{itemOf, told, byOrientations, byTexts, byRows, byMatrix, shapeThere, firstRow, byPair, orientationOfGroup};
+ghost use Rattle.orientation.specs.Group.{itemOf, told, byOrientations, byTexts, byRows, byMatrix, shapeThere, firstRow, byPair, orientationInGroup, orientationOfGroup};
 
 // What a value may serve as, by its kind.
 enum Form {
@@ -312,15 +312,9 @@ fn by_matrix(s: &[u8], at: usize, type_at: usize) -> Oriented
     }
 }
 
-// The axes of a group's readings, of a payload and the first `count` of its rows: by its MTRX, or by its ORIN and ORIO where it has no MTRX.
-pub fn orientation_of_group(
-    payload: &[u8],
-    rows: &[u32],
-    count: usize,
-    group_kind: u32,
-    group_key: u32,
-) -> Oriented
-    ensures { λ r. ⌜ r ≡ orientationOfGroup (now (payload .entry)) (now (rows .entry)) count «group_kind» «group_key» ⌝ }
+// The axes of a group in a payload within the limit.
+fn in_group(payload: &[u8], rows: &[u32], count: usize, group_kind: u32, group_key: u32) -> Oriented
+    ensures { λ r. ⌜ r ≡ orientationInGroup (now (payload .entry)) (now (rows .entry)) count «group_kind» «group_key» ⌝ }
 {
     match item_of(rows, count, group_kind, group_key, keys::names::MTRX) {
         Item::Refused { number, place } => Oriented::Refused { number, place },
@@ -331,4 +325,26 @@ pub fn orientation_of_group(
             item_of(rows, count, group_kind, group_key, keys::names::ORIO),
         ),
     }
+}
+
+// The refusal of a payload over the limit.
+const TOO_LONG: u32 = 1;
+
+// The axes of a group's readings, of a payload and the first `count` of its rows: by its MTRX, or by its ORIN and ORIO where it has no MTRX.
+pub fn orientation_of_group(
+    payload: &[u8],
+    rows: &[u32],
+    count: usize,
+    group_kind: u32,
+    group_key: u32,
+) -> Oriented
+    ensures { λ r. ⌜ r ≡ orientationOfGroup (now (payload .entry)) (now (rows .entry)) count «group_kind» «group_key» ⌝ }
+{
+    if values::LIMIT < payload.len() {
+        return Oriented::Refused {
+            number: TOO_LONG,
+            place: 0,
+        };
+    }
+    in_group(payload, rows, count, group_kind, group_key)
 }

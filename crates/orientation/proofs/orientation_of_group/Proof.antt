@@ -1,58 +1,25 @@
--- `orientation_of_group` meets its contract, by whether there is a MTRX. Assumes nothing.
-use Rattle.orientation.specs.Group.{orientationOfGroup}
-use mathlib.Core.Path.{sym, _∙_}
+-- `orientation_of_group` meets its contract: over the limit it refuses, and within it the group decides. Assumes nothing.
+use native.Mathlib.Omega.{arith}
+use mathlib.Core.Path.{_∙_, sym}
 use borrow.Author.Needs.{needs}
+use borrow.Author.Tests.{lt-ltb, le-ltb}
+use lib.ListN.{length}
+use Rattle.orientation.specs.Group.{orientationOfGroup}
 use Rattle.orientation.proofs.orientation_of_group.Statement.{statement}
 use Rattle.orientation.proofs.orientation_of_group.Tie as tie
 
-item-of-requires : tie.Need-item-of-requires
-item-of-requires c κs = search needs
-
-enum-known-number : tie.Need-enum-known-number
-enum-known-number c = search needs
-
-enum-known-place : tie.Need-enum-known-place
-enum-known-place c = search needs
-
-by-matrix-requires : tie.Need-by-matrix-requires
-by-matrix-requires c κs = search needs
-
-enum-told : tie.Need-enum-told
-enum-told c = search needs
-
-item-of-requires-2 : tie.Need-item-of-requires-2
-item-of-requires-2 c κs = search needs
-
-item-of-requires-3 : tie.Need-item-of-requires-3
-item-of-requires-3 c κs = search needs
-
-by-pair-requires : tie.Need-by-pair-requires
-by-pair-requires c κs = search needs
-
 returns : tie.Need-returns
 unfolding orientationOfGroup
-returns c = simp (sym (c .before .before .before .item-of .ensures) ∙ c .before .number .given .1)
+returns c = let s = c .before .before .before .args .payload .now in simp (lt-ltb 1048576 (length s) (omega arith))
+
+in-group-requires : tie.Need-in-group-requires
+in-group-requires c κs = search needs
 
 returns-2 : tie.Need-returns-2
 unfolding orientationOfGroup
-returns-2 c = simp (sym (c .before .before .before .before .item-of .ensures) ∙ c .before .before .place .given .1, c .by-matrix .ensures)
-
-returns-3 : tie.Need-returns-3
-unfolding orientationOfGroup
-returns-3 c = simp (sym (c .before .before .before .before .before .item-of .ensures) ∙ c .before .before .before .enum-told .given .1, sym (c .before .before .item-of2 .ensures), sym (c .before .item-of3 .ensures), c .by-pair .ensures)
+returns-2 c =
+    let s = c .before .before .before .before .args .payload .now in
+    c .in-group .ensures ∙ sym (simp (le-ltb 1048576 (length s) (omega arith)))
 
 pub orientation-of-group-spec : {M : Type 1} → statement M
-orientation-of-group-spec =
-    tie.close
-    (tie.spec
-    item-of-requires
-    enum-known-number
-    enum-known-place
-    by-matrix-requires
-    enum-told
-    item-of-requires-2
-    item-of-requires-3
-    by-pair-requires
-    returns
-    returns-2
-    returns-3)
+orientation-of-group-spec = tie.close (tie.spec returns in-group-requires returns-2)
