@@ -448,8 +448,10 @@ def quaternion_packets(draw, times):
         for _ in range(draw.choice((1, 1, 2, 3))):
             count = draw.randrange(1, 4)
             numbers = b"".join(draw.choice((b"\x80\0", b"\x80\1", b"\x7f\xff", b"\0\0", draw.randbytes(2))) for _ in range(4 * count))
-            data = item(draw.choice((b"CORI", b"IORI")), draw.choice(b"sssssS"), 8, count, numbers)
+            size = draw.choice((8, 8, 8, 9, 12))  # the size is not looked at
+            data = item(draw.choice((b"CORI", b"IORI")), draw.choice(b"sssssS"), size, count, numbers.ljust(size * count, b"\5"))
             scale = draw.choice((b"", b"", one(b"SCAL", ord("s"), draw.choice((b"\x7f\xff", b"\0\0", b"\0\3", b"\xff\xfe", draw.randbytes(2)))),
+                                 one(b"SCAL", ord("s"), draw.randbytes(3)),
                                  one(b"SCAL", ord("l"), draw.randbytes(4)), item(b"SCAL", ord("s"), 2, 2, draw.randbytes(4)), one(b"SCAL", ord("S"), draw.randbytes(2))))
             streams.append(stream([scale, data]))
         yield b"".join(streams)
@@ -487,6 +489,7 @@ def stamped_packets(draw, times):
     def clock():
         return draw.choice((b"", one(b"STMP", ord("J"), draw.randbytes(8)[1:].rjust(8, b"\0")), one(b"STMP", ord("L"), draw.randbytes(4)), item(b"STMP", ord("J"), 8, 2, bytes(16)),
                             one(b"STMP", ord("U"), draw.choice((b"240229120000.000", b"230229120000.000", b"700101000000.000"))), one(b"STMP", ord("j"), bytes(8)),
+                            one(b"STMP", ord("J"), bytes(7) + draw.randbytes(draw.randrange(2, 9))), one(b"TICK", ord("L"), draw.randbytes(draw.randrange(5, 8))),
                             one(b"TICK", ord("L"), draw.randbytes(4)), one(b"TICK", ord("l"), draw.randbytes(4)), item(b"TICK", ord("L"), 4, 2, draw.randbytes(8)), one(b"TICK", ord("J"), bytes(8))))
     for _ in range(400 * times):
         yield b"".join(stream([clock(), clock(), item(b"GYRO", ord("s"), 6, 1, draw.randbytes(6))]) for _ in range(draw.choice((1, 1, 2))))
@@ -499,13 +502,13 @@ def stamps(draw, times):
 def averages(draw, times):
     """Lists of packets: counts of 0 and more, stamps that rise, stand still and fall, some missing; durations of 0, below it and of all sizes."""
     for _ in range(500 * times):
-        stamp, words, last = draw.randrange(2**40), [], 0.0
+        stamp, words, last = draw.choice((draw.randrange(2**40), 2**42 - 2_500_000)), [], 0.0
         for _ in range(draw.choice((0, 1, 2, 2, 3, 4, 6, 12, 40))):
             stamp = max(0, min(2**42 - 1, stamp + draw.choice((1_000_000, 1_001_001, 0, -5, draw.randrange(-10**6, 10**7)))))
             stamped = draw.random() < 0.7
             duration = draw.choice((1001.0, 1000.0, 1001.0, 0.0, -3.5, draw.random() * 2000, draw.random() * 1e300, 5e-324))
             missing = int(last > 1e-3 and last < 1e9 and draw.random() < 0.15)  # else the Rust's own sum of times may not tell
-            words.append(f"{draw.choice((0, 1, 198, 200, draw.randrange(2000)))}:{stamp if stamped else '-'}:{struct.pack('>d', duration).hex()}:{missing}")
+            words.append(f"{draw.choice((0, 1, 198, 200, draw.randrange(2000), 40000))}:{stamp if stamped else '-'}:{struct.pack('>d', duration).hex()}:{missing}")
             last = duration if stamped else last
             if last > 1e12:
                 break
