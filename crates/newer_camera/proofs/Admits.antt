@@ -30,9 +30,9 @@ module _ (s : List ℕ) (h : KLV) (payload rest : List ℕ) (bytes : AreBytes s)
   past-it {t = t} put = subst (λ (x : List ℕ). PutIn x (laidOut h payload (paddingOf h s) ++ t)) (sym (laid-first s h payload rest bytes reads .is)) (behind is-old put)
 
   -- INSIDE it
-  pub into-it : {g : KLV} {grown t : List ℕ} → Matches h g grown → PutIn payload grown → PutIn rest t → PutIn s (laidOut g grown (paddingOf h s) ++ t)
-  into-it {g = g} {grown = grown} {t = t} m within put =
-      subst (λ (x : List ℕ). PutIn x (laidOut g grown (paddingOf h s) ++ t)) (sym (laid-first s h payload rest bytes reads .is)) (inside is-old m within put)
+  pub into-it : {g : KLV} {grown cushion t : List ℕ} → Matches h g grown (paddingOf h s) cushion → PutIn payload grown → PutIn rest t → PutIn s (laidOut g grown cushion ++ t)
+  into-it {g = g} {grown = grown} {cushion = cushion} {t = t} m within put =
+      subst (λ (x : List ℕ). PutIn x (laidOut g grown cushion ++ t)) (sym (laid-first s h payload rest bytes reads .is)) (inside is-old m within put)
 
 -- ---- 262,148
 

@@ -100,7 +100,7 @@ module _ (by : ℕ → ℕ) where
       (then-grown (walkItem false h payload within there) (walk false (itemsOf t) (after there h payload)) first second)
 
   -- a container with more inside: entered as before, or empty as before
-  inside-grown : {h g : KLV} {payload grown padding s : List ℕ} (i : IsOld h payload padding s) (m : Matches h g grown) (within : PutIn payload grown) (here there : Spot) (room : ℕ) (rs : List Record) (k : ℕ)
+  inside-grown : {h g : KLV} {payload grown padding cushion s : List ℕ} (i : IsOld h payload padding s) (m : Matches h g grown padding cushion) (within : PutIn payload grown) (here there : Spot) (room : ℕ) (rs : List Record) (k : ℕ)
       → there .depth ≡ here .depth
       → ((j : ℕ) → walk false (itemsOf payload) (Walk.inside here (groupIn payload)) room ≡ accepted rs j
       → Grown (map (movedBy by) rs) (rowsFrom within (Walk.inside there (groupIn payload))) (walk false (itemsOf grown) (Walk.inside there (groupIn payload))))
@@ -151,7 +151,7 @@ module _ (by : ℕ → ℕ) where
           (container-grown own its h g payload grown (lastItem (itemsOf payload) (here .place + 8)) (lastItem (itemsOf grown) (there .place + 8)) (walk false (itemsOf payload)) (walk false (itemsOf grown)) here there
           room rs k depth (agree-put (here .place + 8) (there .place + 8) within) (subst Inner name inner) entered)
 
-  grow-inside : {h g : KLV} {payload grown padding s t : List ℕ} (i : IsOld h payload padding s) (m : Matches h g grown) (within : PutIn payload grown) (put : PutIn s t) → Grows within → Grows put
+  grow-inside : {h g : KLV} {payload grown padding cushion s t : List ℕ} (i : IsOld h payload padding s) (m : Matches h g grown padding cushion) (within : PutIn payload grown) (put : PutIn s t) → Grows within → Grows put
       → Grows (inside i m within put)
   unfolding putBefore rowsFrom walk
   grow-inside {h = h} {g = g} {payload = payload} {grown = grown} {padding = padding} {s = s} {t = t} i m within put inner rest here there δ alike moves local room rs k e =

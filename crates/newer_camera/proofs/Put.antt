@@ -37,20 +37,21 @@ fours (behind {h = h} {payload = payload} {padding = padding} {s = s} {t = t} i 
     let (k, e) = fours put in
     let before = long h payload padding s in
     (k, long h payload padding t ∙ omega arith)
-fours (inside {h = h} {g = g} {payload = payload} {grown = grown} {padding = padding} {s = s} {t = t} i m within put) =
+fours (inside {h = h} {g = g} {payload = payload} {grown = grown} {padding = padding} {cushion = cushion} {s = s} {t = t} i m within put) =
     let (j, d) = fours within in
+    let alike = m .padded-alike in
     let (k, e) = fours put in
     let before = long h payload padding s in
-    (j + k, long g grown padding t ∙ omega arith)
+    (j + k, long g grown cushion t ∙ omega arith)
 
 no-bytes : (s : List ℕ) → length s ≡ 0 → s ≡ []
 no-bytes [] e = refl
 no-bytes (b ∷ s) e = absurd (omega arith)
 
 -- so a container's padding is as right as it was
-padded-still : {s t : List ℕ} {n m : ℕ} {padding : List ℕ} (k : ℕ) → m ≡ n + 4 * k → Padded n padding s → PutIn s t → Padded m padding t
-padded-still k q (whole e) put = whole (omega arith)
-padded-still {t = t} k q (missing l) put = let z = no-bytes t (none-in put refl) in rw z (missing (omega arith))
+padded-still : {s t : List ℕ} {n m : ℕ} {padding cushion : List ℕ} (k : ℕ) → m ≡ n + 4 * k → length cushion ≡ length padding → Padded n padding s → PutIn s t → Padded m cushion t
+padded-still k q alike (whole e) put = whole (omega arith)
+padded-still {t = t} k q alike (missing l) put = let z = no-bytes t (none-in put refl) in rw z (missing (omega arith))
 
 -- THE LEVELS of the bytes before and after: an item in front is one node more
 module _ {h : KLV} {payload padding : List ℕ} where
@@ -61,13 +62,13 @@ module _ {h : KLV} {payload padding : List ℕ} where
   old-level {s = s} i = items-laid h payload padding s (i .whole .written) (i .whole .is-long) (i .padded)
 
   pub behind-level : {s t : List ℕ} → IsOld h payload padding s → PutIn s t → itemsOf (laidOut h payload padding ++ t) ≡ node h payload (itemsOf payload) (itemsOf t)
-  behind-level {t = t} i put = items-laid h payload padding t (i .whole .written) (i .whole .is-long) (padded-still 0 (omega arith) (i .padded) put)
+  behind-level {t = t} i put = items-laid h payload padding t (i .whole .written) (i .whole .is-long) (padded-still 0 (omega arith) refl (i .padded) put)
 
-  pub inside-level : {g : KLV} {grown s t : List ℕ} → IsOld h payload padding s → Matches h g grown → PutIn payload grown → PutIn s t
-      → itemsOf (laidOut g grown padding ++ t) ≡ node g grown (itemsOf grown) (itemsOf t)
-  inside-level {g = g} {grown = grown} {t = t} i m within put =
+  pub inside-level : {g : KLV} {grown cushion s t : List ℕ} → IsOld h payload padding s → Matches h g grown padding cushion → PutIn payload grown → PutIn s t
+      → itemsOf (laidOut g grown cushion ++ t) ≡ node g grown (itemsOf grown) (itemsOf t)
+  inside-level {g = g} {grown = grown} {cushion = cushion} {t = t} i m within put =
       let (k, q) = fours within in
-      items-laid g grown padding t (m .whole .written) (m .whole .is-long) (padded-still k q (i .padded) put)
+      items-laid g grown cushion t (m .whole .written) (m .whole .is-long) (padded-still k q (m .padded-alike) (i .padded) put)
 
 -- ---- the bytes put in at or before a place
 
@@ -122,12 +123,13 @@ put-high (behind {h = h} {payload = payload} {padding = padding} {s = s} {t = t}
     let rest = behind-high put (i .padded) (λ f d k. put-high put f d k) (from + 8) c (omega arith) in
     let after = long h payload padding t in
     rw is-long (omega arith)
-put-high (inside {h = h} {g = g} {payload = payload} {grown = grown} {padding = padding} {s = s} {t = t} i m within put) from c l =
+put-high (inside {h = h} {g = g} {payload = payload} {grown = grown} {padding = padding} {cushion = cushion} {s = s} {t = t} i m within put) from c l =
     let before = long h payload padding s in
     let is-long = i .whole .is-long in
     let inner = put-high within (from + 8) c (omega arith) in
     let rest = behind-high put (i .padded) (λ f d k. put-high put f d k) (from + 8) c (omega arith) in
-    let after = long g grown padding t in
+    let alike = m .padded-alike in
+    let after = long g grown cushion t in
     rw is-long (omega arith)
 
 -- ---- the last item keeps its key

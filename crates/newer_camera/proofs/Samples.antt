@@ -9,7 +9,7 @@ use mathlib.Core.List.{List, [], _∷_, _++_, map}
 use native.Mathlib.Omega.{arith}
 use borrow.Author.Tests.{leb-true}
 use lib.Dec.{leb}
-use lib.ListN.{length, drop}
+use lib.ListN.{length, take, drop}
 use Rattle.foundation.specs.BigEndian.{bytesOf}
 use Rattle.foundation.specs.Fuel.{run, fix}
 use Rattle.foundation.specs.Text.{key}
@@ -79,7 +79,7 @@ is-scale = record { whole = omega arith; padded = whole refl }
 pub is-stream : IsOld (header "STRM" 0 1 20) stream [] []
 is-stream = record { whole = omega arith; padded = whole refl }
 
-pub matches : Matches (header "STRM" 0 1 20) (header "STRM" 0 26 2) grownStream
+pub matches : Matches (header "STRM" 0 1 20) (header "STRM" 0 26 2) grownStream [] []
 matches = omega arith
 
 -- an item stands there
@@ -110,11 +110,26 @@ grownNested = bytesOf 49 0x44455643_00_01_0029_54485245_42_01_0003_01020300_5354
 
 abbrev pub in-nested : PutIn nested grownNested
 in-nested =
-    inside {h = header "DEVC" 0 1 17} {g = header "DEVC" 0 1 41} {payload = drop 8 nested} {grown = drop 8 grownNested} {padding = []} {s = []}
+    inside {h = header "DEVC" 0 1 17} {g = header "DEVC" 0 1 41} {payload = drop 8 nested} {grown = drop 8 grownNested} {padding = []} {cushion = []} {s = []}
     (record { whole = omega arith; padded = missing (omega arith) }) (omega arith)
     (new {s = drop 8 nested} (is-three 1 2 3 0) (omega arith)
-    (inside {h = header "STRM" 0 1 9} {g = header "STRM" 0 3 7} {payload = lone} {grown = grownLone} {padding = []} {s = []}
+    (inside {h = header "STRM" 0 1 9} {g = header "STRM" 0 3 7} {payload = lone} {grown = grownLone} {padding = []} {cushion = []} {s = []}
     (record { whole = omega arith; padded = missing (omega arith) }) (omega arith) (new {s = lone} (is-three 4 5 6 0) (omega arith) nothing) nothing))
+    nothing
+
+-- ---- a STRM with padding of its own, and an item behind it; one in front of the GYRO inside, and the STRM's padding written anew
+
+abbrev pub cushioned : List ℕ
+cushioned = bytesOf 29 0x5354524d_00_01_0009_4759524f_42_01_0001_07_010203_41424344_42_01_0001_05
+
+abbrev pub grownCushioned : List ℕ
+grownCushioned = bytesOf 41 0x5354524d_00_01_0015_4e455730_42_01_0001_09000000_4759524f_42_01_0001_07_ff00aa_41424344_42_01_0001_05
+
+abbrev pub in-cushioned : PutIn cushioned grownCushioned
+in-cushioned =
+    inside {h = header "STRM" 0 1 9} {g = header "STRM" 0 1 21} {payload = lone} {grown = take 21 (drop 8 grownCushioned)} {padding = 1 ∷ 2 ∷ 3 ∷ []} {cushion = 0xff ∷ 0 ∷ 0xaa ∷ []} {s = drop 20 cushioned}
+    (record { whole = omega arith; padded = whole refl }) (omega arith)
+    (new {h = header "NEW0" (code "B") 1 1} {payload = 9 ∷ []} {padding = 0 ∷ 0 ∷ 0 ∷ []} {s = lone} (omega arith) (omega arith) nothing)
     nothing
 
 -- ---- a TYPE and a `?` item without its padding; one in front of each
@@ -171,6 +186,17 @@ samples =
       is = rows (another 8 1 (key "STRM") 1 ∷ another 28 1 (key "GYRO") 2 ∷ row 40 1 (key "GYRO") 1 (key "GYRO") 0x42_01_0001 noPlace 2 ∷ []) 9;
     }
     ∷ record {
+      before = cushioned;
+      after = grownCushioned;
+      put = in-cushioned;
+      room = 3;
+      was = rows (row 8 1 (key "GYRO") 1 (key "GYRO") 0x42_01_0001 noPlace 1 ∷ row 20 0 0 0 (key "ABCD") 0x42_01_0001 noPlace 0 ∷ []) 4;
+      is =
+          rows
+          (row 8 1 (key "GYRO") 0 (key "NEW0") 0x42_01_0001 noPlace 1 ∷ row 20 1 (key "GYRO") 1 (key "GYRO") 0x42_01_0001 noPlace 1 ∷ row 32 0 0 0 (key "ABCD") 0x42_01_0001 noPlace 0 ∷ [])
+          6;
+    }
+    ∷ record {
       before = described;
       after = grownDescribed;
       put = in-described;
@@ -203,7 +229,7 @@ as-they-are = record { old-readings = refl; new-readings = refl }
 abbrev otherStream : List ℕ
 otherStream = bytesOf 52 0x54485245_42_01_0003_ffff00ee_5343414c_73_02_0001_00010000_54485245_42_01_0003_00000000_4e4f4e45_4c_04_0000_4759524f_73_06_0000
 
-pub other-matches : Matches (header "STRM" 0 1 20) (header "STRM" 0 26 2) otherStream
+pub other-matches : Matches (header "STRM" 0 1 20) (header "STRM" 0 26 2) otherStream [] []
 other-matches = omega arith
 
 pub other-bytes : OtherBytes twelve newer in-twelve (bytesOf 20 0x54485245_42_01_0003_abcdef00_5354524d_00_1a_0002 ++ otherStream)

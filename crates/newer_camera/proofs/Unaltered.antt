@@ -87,7 +87,7 @@ spot-behind {h = h} {payload = payload} i other here =
     (new-keeps-type i other here ∙ sym (new-keeps-type i payload here))
 
 -- and behind a container
-spot-past : {h g : KLV} {grown : List ℕ} → Matches h g grown → (other : List ℕ) (here : Spot) → after here g other ≡ after here g grown
+spot-past : {h g : KLV} {grown padding cushion : List ℕ} → Matches h g grown padding cushion → (other : List ℕ) (here : Spot) → after here g other ≡ after here g grown
 spot-past {g = g} {grown = grown} m other here =
     ap (λ (type : TypeInForce). record { place = nextAt (here .place) g; depth = here .depth; group = here .group; type = type })
     (container-keeps-type g other here (m .still-container) ∙ sym (container-keeps-type g grown here (m .still-container)))
@@ -124,7 +124,7 @@ module _ (forced : Bool) where
       go rowItem m = row room
 
   -- a container's rows are those of its payload
-  container-same : {h g : KLV} {grown : List ℕ} → Matches h g grown → (other : List ℕ) (within inner : Level) (here : Spot) (room : ℕ)
+  container-same : {h g : KLV} {grown padding cushion : List ℕ} → Matches h g grown padding cushion → (other : List ℕ) (within inner : Level) (here : Spot) (room : ℕ)
       → lastItem inner (here .place + 8) ≡ lastItem within (here .place + 8) → ((x : Spot) → answer (walk forced inner x room) ≡ answer (walk forced within x room))
       → answer (walkItem forced g other inner here room) ≡ answer (walkItem forced g grown within here room)
   unfolding itemOutcome
@@ -173,9 +173,9 @@ as-long (in-new {h = h} {payload = payload} {padding = padding} {other = other} 
 as-long (behind-old {h = h} {payload = payload} {padding = padding} {t = t} {u = u} o) =
     let rest = as-long o in
     omega (arith, long h payload padding u, long h payload padding t)
-as-long (inside-old {g = g} {grown = grown} {other = other} {padding = padding} {t = t} {u = u} {m = k} m w o) =
+as-long (inside-old {g = g} {grown = grown} {other = other} {cushion = cushion} {filling = filling} {t = t} {u = u} {m = k} m w o) =
     let rest = as-long o in
-    omega (arith, long g other padding u, long g grown padding t, k .whole .is-long, m .whole .is-long)
+    omega (arith, long g other filling u, long g grown cushion t, k .whole .is-long, m .whole .is-long, k .padded-alike, m .padded-alike)
 
 -- THE ANSWER IS THE SAME, in numbers: every row, the headers, or the refusal and its place
 pub answer-unaltered : {s t u : List ℕ} {put : PutIn s t} → OtherBytes s t put u → (forced : Bool) (room : ℕ) → answer (readingOf forced u room) ≡ answer (readingOf forced t room)

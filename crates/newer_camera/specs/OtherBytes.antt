@@ -15,10 +15,10 @@ pub data OtherBytes : (s t : List ℕ) → PutIn s t → List ℕ → Type 0 whe
   -- an old item stays
   behind-old : {h : KLV} {payload padding s t u : List ℕ} {i : IsOld h payload padding s} {put : PutIn s t} → OtherBytes s t put u
       → OtherBytes (laidOut h payload padding ++ s) (laidOut h payload padding ++ t) (behind i put) (laidOut h payload padding ++ u)
-  -- a container's header stays
-  inside-old : {h g : KLV} {payload grown other padding s t u : List ℕ} {i : IsOld h payload padding s} {m : Matches h g grown} {within : PutIn payload grown} {put : PutIn s t}
-      → Matches h g other → OtherBytes payload grown within other → OtherBytes s t put u
-      → OtherBytes (laidOut h payload padding ++ s) (laidOut g grown padding ++ t) (inside i m within put) (laidOut g other padding ++ u)
+  -- a container's header stays; its padding may be another
+  inside-old : {h g : KLV} {payload grown other padding cushion filling s t u : List ℕ} {i : IsOld h payload padding s} {m : Matches h g grown padding cushion} {within : PutIn payload grown} {put : PutIn s t}
+      → Matches h g other padding filling → OtherBytes payload grown within other → OtherBytes s t put u
+      → OtherBytes (laidOut h payload padding ++ s) (laidOut g grown cushion ++ t) (inside i m within put) (laidOut g other filling ++ u)
 
 -- they come of putting in too
 unfoldable pub putAgain : {s t u : List ℕ} {put : PutIn s t} → OtherBytes s t put u → PutIn s u

@@ -27,12 +27,14 @@ pub record IsOld (h : KLV) (payload padding rest : List ℕ) : Type 0 where
   pub whole : Fits h payload
   pub padded : Padded (length payload) padding rest
 
--- an old container's header, and the one for what its payload has become: "enclosing lengths written to match", by any size and repeat
-pub record Matches (h g : KLV) (grown : List ℕ) : Type 0 where
+-- an old container's header and padding, and those for what its payload has become: "enclosing lengths written to match", by any size and repeat;
+-- the padding is as long as it was, for the payload grows by whole fours, and may be other bytes
+pub record Matches (h g : KLV) (grown padding cushion : List ℕ) : Type 0 where
   pub container : h .«data_type» ≡ 0
   pub still-container : g .«data_type» ≡ 0
   pub same-key : g .key ≡ h .key
   pub whole : Fits g grown
+  pub padded-alike : length cushion ≡ length padding
 
 -- an item that the walk reaches stands first in what remains of a level (document 01, Items and the walk: "While 8 bytes or more remain, read an item")
 abbrev pub Reached : List ℕ → Type 0
@@ -48,5 +50,5 @@ pub data PutIn : List ℕ → List ℕ → Type 0 where
   behind : {h : KLV} {payload padding s t : List ℕ} → IsOld h payload padding s → PutIn s t
       → PutIn (laidOut h payload padding ++ s) (laidOut h payload padding ++ t)
   -- an old container with more inside it, so "at any depth", and more behind it
-  inside : {h g : KLV} {payload grown padding s t : List ℕ} → IsOld h payload padding s → Matches h g grown → PutIn payload grown → PutIn s t
-      → PutIn (laidOut h payload padding ++ s) (laidOut g grown padding ++ t)
+  inside : {h g : KLV} {payload grown padding cushion s t : List ℕ} → IsOld h payload padding s → Matches h g grown padding cushion → PutIn payload grown → PutIn s t
+      → PutIn (laidOut h payload padding ++ s) (laidOut g grown cushion ++ t)
