@@ -7,6 +7,7 @@ pub mod Order
 pub mod Meeting
 pub mod Unaltered
 pub mod NewerCamera
+pub mod SameValue
 pub mod Admits
 pub mod Samples
 pub mod WrongReaders

@@ -2,3 +2,4 @@ pub mod PutIn
 pub mod Rows
 pub mod OtherBytes
 pub mod OldReader
+pub mod SameValue
