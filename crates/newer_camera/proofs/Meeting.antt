@@ -23,7 +23,7 @@ use Rattle.newer_camera.proofs.Value.{found-there, text-moved, value-mo
 
 -- ---- lists among each other
 
-among-length : {olds news rows : List Record} → Among olds news rows → length rows ≡ length olds + length news
+pub among-length : {olds news rows : List Record} → Among olds news rows → length rows ≡ length olds + length news
 among-length neither = refl
 among-length (an-old m) = let e = among-length m in omega arith
 among-length (a-new m) = let e = among-length m in omega arith
@@ -34,8 +34,14 @@ among-old (an-old a) (List·Memᴰ·head e) = List·Memᴰ·head e
 among-old (an-old a) (List·Memᴰ·tail m) = List·Memᴰ·tail (among-old a m)
 among-old (a-new a) m = List·Memᴰ·tail (among-old a m)
 
+-- so are what a function makes of them
+pub among-map : {A B : Type 0} (f : A → B) {olds news rows : List A} → Among olds news rows → Among (map f olds) (map f news) (map f rows)
+among-map f neither = neither
+among-map f (an-old a) = an-old (among-map f a)
+among-map f (a-new a) = a-new (among-map f a)
+
 module _ (f : Record → Record) where
-  map-length : (rs : List Record) → length (map f rs) ≡ length rs
+  pub map-length : (rs : List Record) → length (map f rs) ≡ length rs
   map-length [] = refl
   map-length (r ∷ rs) = let e = map-length rs in omega arith
 

@@ -51,10 +51,10 @@ pub record Kept (s t : List ℕ) (r now : Record) : Type 0 where
 -- ---- all rows
 
 -- two lists among each other, each in its own order: nothing left out, and nothing else
-pub data Among : List Record → List Record → List Record → Type 0 where
+pub data Among {A : Type 0} : List A → List A → List A → Type 0 where
   neither : Among [] [] []
-  an-old : {r : Record} {olds news rows : List Record} → Among olds news rows → Among (r ∷ olds) news (r ∷ rows)
-  a-new : {r : Record} {olds news rows : List Record} → Among olds news rows → Among olds (r ∷ news) (r ∷ rows)
+  an-old : {r : A} {olds news rows : List A} → Among olds news rows → Among (r ∷ olds) news (r ∷ rows)
+  a-new : {r : A} {olds news rows : List A} → Among olds news rows → Among olds (r ∷ news) (r ∷ rows)
 
 -- in the order of their places, from one place up to an end: so the two lists go among each other in one way only
 abbrev pub InOrder : ℕ → ℕ → List Record → Type 0

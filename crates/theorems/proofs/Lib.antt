@@ -1,3 +1,4 @@
 pub mod OneAnswer
 pub mod RowValue
 pub mod MarkedCases
+pub mod NewerCameraCall
