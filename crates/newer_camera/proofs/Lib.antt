@@ -9,5 +9,6 @@ pub mod Unaltered
 pub mod NewerCamera
 pub mod SameValue
 pub mod Admits
+pub mod TooLong
 pub mod Samples
 pub mod WrongReaders
