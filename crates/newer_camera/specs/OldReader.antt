@@ -37,7 +37,8 @@ textFor h t = cond (eqb (h .«data_type») (code "?")) (kept (textInForce t)) []
 abbrev pub ownValue : Record → Found
 ownValue r = found (r .content .header) (r .content .payload) (textFor (r .content .header) (r .type))
 
--- a row r of the payload s, and what it is now in t: "with the same group, identity, type, bytes and value"
+-- a row r of the payload s, and what it is now in t: "with the same group, identity, type, bytes and value". Where now is r moved, content and
+-- type-text hold by the definition of moving; bytes and the two values say what stands in t and s, and carry the weight
 pub record Kept (s t : List ℕ) (r now : Record) : Type 0 where
   -- group, depth, header (key, type, size, repeat) and payload bytes; so a row's numbers but for its places
   pub content : now .content ≡ r .content
@@ -63,7 +64,8 @@ InOrder from end (r ∷ rs) = (from ≤ r .place) × (r .place < end) × InOrder
 
 -- ---- the reading of t with so much room, where s was read to the rows rs
 
--- "When accepted, every old record is there in the old order .. The rest is exactly one record for each new item with a payload"
+-- "When accepted, every old record is there in the old order .. The rest is exactly one record for each new item with a payload": that the rows which the
+-- reader gives are the old ones, moved by the bytes put in before them, and the new ones (rows-are) carries the weight
 pub record Accepted {s t : List ℕ} (put : PutIn s t) (rs : List Record) (room : ℕ) (rows : List Record) : Type 0 where
   pub not-too-long : length t ≤ mostBytes
   pub enough-room : length rs + length (newRows put) ≤ room
@@ -91,7 +93,7 @@ module _ (reads : List ℕ → ℕ → Outcome) where
   pub record Unaltered {s t u : List ℕ} {put : PutIn s t} (o : OtherBytes s t put u) (rs : List Record) (room : ℕ) : Type 0 where
     -- u is met as t is
     pub met : Met (putAgain o) rs room (reads u room)
-    -- with the same old rows, places and all
+    -- with the same old rows, places and all: so by the definition of moving, which asks for lengths only; met says that they are what is read
     pub old-rows : map (moved (putAgain o)) rs ≡ map (moved put) rs
     -- and the very same numbers for every row, or the same refusal
     pub same-answer : answer (reads u room) ≡ answer (reads t room)
@@ -101,6 +103,7 @@ module _ (reads : List ℕ → ℕ → Outcome) where
     pub met : (room : ℕ) → Met put rs room (reads t room)
     pub unaltered : {u : List ℕ} (o : OtherBytes s t put u) (room : ℕ) → Unaltered o rs room
 
-  -- AN OLD READER MEETS A NEWER CAMERA: "Take a payload accepted .. Put new items in .."
+  -- AN OLD READER MEETS A NEWER CAMERA: "Take a payload accepted .. Put new items in ..". Of a payload that a reader refuses this asks nothing: a reader that
+  -- refuses everything is shut out by demand 2, and `readingOf false`, which demand 2 settles, is the one that is shown to have this property
   abbrev pub MeetsNewerCameras : Type 0
   MeetsNewerCameras = (s t : List ℕ) (put : PutIn s t) (room : ℕ) (rs : List Record) (headers : ℕ) → reads s room ≡ accepted rs headers → OldReader put rs

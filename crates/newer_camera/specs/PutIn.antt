@@ -1,6 +1,7 @@
 -- New items put into a payload: a relation between the bytes before and the bytes after. Demand 3: "Put new items in front of items the walk
 -- reaches, at any depth: each whole, padded to four bytes, no container, not keyed TYPE, enclosing lengths written to match, each a product
--- that a size byte and a 16-bit repeat can write (262,148 is none)." Assumes nothing: these are definitions.
+-- that a size byte and a 16-bit repeat can write (262,148 is none)." Payloads and paddings are lists of any numbers here: a camera's are bytes, which only
+-- narrows what is said. Assumes nothing: these are definitions.
 use Prim.Native.Nat.{ℕ, _+_, _≤_}
 use mathlib.Core.Path.{_≡_}
 use mathlib.Core.Logic.{_≢_}
