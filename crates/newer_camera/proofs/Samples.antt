@@ -125,12 +125,24 @@ cushioned = bytesOf 29 0x5354524d_00_01_0009_4759524f_42_01_0001_07_010203_41424
 abbrev pub grownCushioned : List ℕ
 grownCushioned = bytesOf 41 0x5354524d_00_01_0015_4e455730_42_01_0001_09000000_4759524f_42_01_0001_07_ff00aa_41424344_42_01_0001_05
 
+-- a new item of one byte, and the STRM round it, with any padding each
+abbrev one : KLV
+one = header "NEW0" (code "B") 1 1
+
+pub is-one : (a b c d : ℕ) → IsNew one (a ∷ []) (b ∷ c ∷ d ∷ [])
+is-one a b c d = omega arith
+
+abbrev grownInside : ℕ → ℕ → ℕ → ℕ → List ℕ
+grownInside a b c d = bytesOf 8 0x4e455730_42_01_0001 ++ (a ∷ b ∷ c ∷ d ∷ lone)
+
+pub is-cushioned : IsOld (header "STRM" 0 1 9) lone (1 ∷ 2 ∷ 3 ∷ []) (drop 20 cushioned)
+is-cushioned = record { whole = omega arith; padded = whole refl }
+
+pub matches-anew : (a b c d x y z : ℕ) → Matches (header "STRM" 0 1 9) (header "STRM" 0 1 21) (grownInside a b c d) (1 ∷ 2 ∷ 3 ∷ []) (x ∷ y ∷ z ∷ [])
+matches-anew a b c d x y z = omega arith
+
 abbrev pub in-cushioned : PutIn cushioned grownCushioned
-in-cushioned =
-    inside {h = header "STRM" 0 1 9} {g = header "STRM" 0 1 21} {payload = lone} {grown = take 21 (drop 8 grownCushioned)} {padding = 1 ∷ 2 ∷ 3 ∷ []} {cushion = 0xff ∷ 0 ∷ 0xaa ∷ []} {s = drop 20 cushioned}
-    (record { whole = omega arith; padded = whole refl }) (omega arith)
-    (new {h = header "NEW0" (code "B") 1 1} {payload = 9 ∷ []} {padding = 0 ∷ 0 ∷ 0 ∷ []} {s = lone} (omega arith) (omega arith) nothing)
-    nothing
+in-cushioned = inside is-cushioned (matches-anew 9 0 0 0 0xff 0 0xaa) (new {s = lone} (is-one 9 0 0 0) (some lone refl) nothing) nothing
 
 -- ---- a TYPE and a `?` item without its padding; one in front of each
 
@@ -239,3 +251,10 @@ other-bytes =
     (in-new {i = is-three 1 2 3 255} {front = some stream refl} (is-three 0xff 0xff 0 0xee)
     (behind-old {i = is-scale} (in-new {i = is-three 4 5 6 0} {front = some gyro refl} (is-three 0 0 0 0) (in-new {i = is-none} {front = some gyro refl} is-none in-nothing))))
     in-nothing)
+
+-- ---- and of the one with padding of its own, which is another once more
+
+pub other-padding : OtherBytes cushioned grownCushioned in-cushioned (bytesOf 41 0x5354524d_00_01_0015_4e455730_42_01_0001_ff010203_4759524f_42_01_0001_07_abcdef_41424344_42_01_0001_05)
+other-padding =
+    inside-old {i = is-cushioned} {m = matches-anew 9 0 0 0 0xff 0 0xaa} (matches-anew 0xff 1 2 3 0xab 0xcd 0xef)
+    (in-new {i = is-one 9 0 0 0} {front = some lone refl} (is-one 0xff 1 2 3) in-nothing) in-nothing
