@@ -144,6 +144,15 @@ matches-anew a b c d x y z = omega arith
 abbrev pub in-cushioned : PutIn cushioned grownCushioned
 in-cushioned = inside is-cushioned (matches-anew 9 0 0 0 0xff 0 0xaa) (new {s = lone} (is-one 9 0 0 0) (some lone refl) nothing) nothing
 
+-- and one more behind the container, in front of the last item
+abbrev pub grownBehind : List ℕ
+grownBehind = bytesOf 53 0x5354524d_00_01_0015_4e455730_42_01_0001_09000000_4759524f_42_01_0001_07_ff00aa_4e455730_42_01_0001_0a000000_41424344_42_01_0001_05
+
+abbrev pub in-behind : PutIn cushioned grownBehind
+in-behind =
+    inside is-cushioned (matches-anew 9 0 0 0 0xff 0 0xaa) (new {s = lone} (is-one 9 0 0 0) (some lone refl) nothing)
+    (new {s = drop 20 cushioned} (is-one 10 0 0 0) (some (drop 20 cushioned) refl) nothing)
+
 -- ---- a TYPE and a `?` item without its padding; one in front of each
 
 abbrev pub described : List ℕ
@@ -207,6 +216,21 @@ samples =
           rows
           (row 8 1 (key "GYRO") 0 (key "NEW0") 0x42_01_0001 noPlace 1 ∷ row 20 1 (key "GYRO") 1 (key "GYRO") 0x42_01_0001 noPlace 1 ∷ row 32 0 0 0 (key "ABCD") 0x42_01_0001 noPlace 0 ∷ [])
           6;
+    }
+    ∷ record {
+      before = cushioned;
+      after = grownBehind;
+      put = in-behind;
+      room = 4;
+      was = rows (row 8 1 (key "GYRO") 1 (key "GYRO") 0x42_01_0001 noPlace 1 ∷ row 20 0 0 0 (key "ABCD") 0x42_01_0001 noPlace 0 ∷ []) 4;
+      is =
+          rows
+          (row 8 1 (key "GYRO") 0 (key "NEW0") 0x42_01_0001 noPlace 1
+          ∷ row 20 1 (key "GYRO") 1 (key "GYRO") 0x42_01_0001 noPlace 1
+          ∷ row 32 0 0 0 (key "NEW0") 0x42_01_0001 noPlace 0
+          ∷ row 44 0 0 0 (key "ABCD") 0x42_01_0001 noPlace 0
+          ∷ [])
+          7;
     }
     ∷ record {
       before = described;
