@@ -435,6 +435,17 @@ def cuts(draw, times):
     return (f"cuts {shown(file)}" for file in cut_files(draw, times))
 
 
+def packet_files(draw, times):
+    """Raw files of packets that are read and damaged."""
+    for _ in range(200 * times):
+        yield b"".join(b"DEVC\0\1\0\0" + (damaged(draw, payload) if draw.random() < 0.3 else payload)
+                       for payload in (random_level(draw, draw.randrange(4)) for _ in range(draw.randrange(1, 5))) if len(payload) < 1000)
+
+
+def packets_read(draw, times):
+    return (f"packets {shown(file)}" for file in packet_files(draw, times))
+
+
 def stream(items):
     """A container of items."""
     payload = b"".join(items)
@@ -543,7 +554,7 @@ REPLAY = {
     "last": last_items,
     "none": lambda draw, times: no_questions(draw),
 }
-REPLAY_PACKETS = {"matrix": matrices, "back": backs, "cuts": cuts, "oriented": orientations, "quat": quaternions_scaled, "stamp": stamps, "average": averages}
+REPLAY_PACKETS = {"matrix": matrices, "back": backs, "cuts": cuts, "packets": packets_read, "oriented": orientations, "quat": quaternions_scaled, "stamp": stamps, "average": averages}
 LISTS = {"replay": REPLAY, "replay_packets": REPLAY_PACKETS}
 KINDS = {**REPLAY, **REPLAY_PACKETS}
 

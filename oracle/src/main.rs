@@ -33,6 +33,7 @@ fn answer(line: &str) -> Option<String> {
         "average" => average(asked),
         "cut" => cut(asked),
         "cuts" => cuts(asked),
+        "packets" => packets(asked),
         "sett" => sett(asked),
         "udta" => udta(asked),
         "speed" => speed(asked),
@@ -299,6 +300,17 @@ fn cut(asked: &[&str]) -> Option<String> {
 fn cuts(asked: &[&str]) -> Option<String> {
     let [file] = asked else { return None };
     Some(format!("ok{}", probe::cuts(&bytes(file)?).iter().map(|(a, b)| format!(" {a}-{b}")).collect::<String>()))
+}
+
+/// packets HEX: of each packet the headers read, or `err`
+fn packets(asked: &[&str]) -> Option<String> {
+    let [file] = asked else { return None };
+    let file = bytes(file)?;
+    let headers = |(a, b): &(usize, usize)| {
+        let before = byteorder::u16_reads();
+        parsed(&file[*a..*b], false).map_or(" err".into(), |_| format!(" {}", byteorder::u16_reads() - before))
+    };
+    Some(format!("ok{}", probe::cuts(&file).iter().map(headers).collect::<String>()))
 }
 
 /// sett HEX

@@ -14,6 +14,7 @@ use quaternions::Quaternion;
 use quaternions::ScaledRow;
 use raw_file::NextPacket;
 use raw_file::Packets;
+use raw_metadata::NextMetadata;
 use stamps::Stamp;
 
 const GYRO: u32 = 0x4759524f;
@@ -177,6 +178,53 @@ fn put_cut(start: usize, stop: usize, out: &mut [u8], at: usize) -> usize {
     let from = text::put_decimal(out, space, start as u64);
     let dash = text::put(out, from, b'-');
     text::put_decimal(out, dash, stop as u64)
+}
+
+// packets HEX
+pub(crate) fn put_readings(hex: &[u8], out: &mut [u8], at: usize) -> usize {
+    let mut file = file_buffer();
+    let Decoded::Bytes(n) = bytes_of(hex, &mut file) else {
+        return put_unknown(out, at);
+    };
+    let mut rows = row_buffer();
+    let ok = text::put_bytes(out, at, b"ok");
+    put_each(first(&file, n), &mut rows, out, ok)
+}
+
+fn put_each(file: &[u8], rows: &mut [u32], out: &mut [u8], at: usize) -> usize {
+    let mut end = at;
+    let mut packets = Packets::new(0);
+    let mut left = file.len();
+    while left > 0 {
+        match raw_metadata::next_metadata(packets, file, false, rows) {
+            NextMetadata::End => {
+                left = 0;
+            }
+            NextMetadata::Is {
+                packet: _,
+                metadata,
+                rest,
+            } => {
+                end = put_headers(metadata, out, end);
+                packets = rest;
+                left -= 1;
+            }
+        }
+    }
+    end
+}
+
+fn put_headers(metadata: Metadata, out: &mut [u8], at: usize) -> usize {
+    match metadata {
+        Metadata::Rows { rows: _, headers } => {
+            let space = text::put(out, at, b' ');
+            text::put_decimal(out, space, headers as u64)
+        }
+        Metadata::Refused {
+            number: _,
+            place: _,
+        } => text::put_bytes(out, at, b" err"),
+    }
 }
 
 // ---- rows of a payload

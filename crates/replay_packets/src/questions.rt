@@ -20,6 +20,7 @@ fn put_answer(question: &[u8], out: &mut [u8], at: usize) -> usize {
         5 => motion::put_stamp(one, two, out, at),
         6 => averages::put_average(question, out, at),
         7 => motion::put_oriented(one, out, at),
+        8 => motion::put_readings(one, out, at),
         _ => put_unknown(out, at),
     }
 }
@@ -47,6 +48,9 @@ fn number_of(question: &[u8]) -> usize {
     }
     if check::same(name, b"oriented") {
         return 7;
+    }
+    if check::same(name, b"packets") {
+        return 8;
     }
     0
 }
