@@ -233,8 +233,25 @@ fn row_buffer() -> [u32; 16384] {
     [0u32; 16384]
 }
 
+// What is asked of a payload's rows.
+enum Asked {
+    Oriented,
+    Quaternions,
+    Stamp,
+}
+
 // oriented HEX
 pub(crate) fn put_oriented(hex: &[u8], out: &mut [u8], at: usize) -> usize {
+    put_of_rows(Asked::Oriented, 0, hex, out, at)
+}
+
+// quat HEX
+pub(crate) fn put_quaternions(hex: &[u8], out: &mut [u8], at: usize) -> usize {
+    put_of_rows(Asked::Quaternions, 0, hex, out, at)
+}
+
+// Walks the payload that a word is in hex, and lays what is asked of its rows; only a stamp has a group.
+fn put_of_rows(asked: Asked, group: u32, hex: &[u8], out: &mut [u8], at: usize) -> usize {
     let mut payload = file_buffer();
     let Decoded::Bytes(n) = bytes_of(hex, &mut payload) else {
         return put_unknown(out, at);
@@ -248,7 +265,23 @@ pub(crate) fn put_oriented(hex: &[u8], out: &mut [u8], at: usize) -> usize {
         Metadata::Rows {
             rows: count,
             headers: _,
-        } => put_all_oriented(first(&payload, n), &rows, count, out, at),
+        } => put_asked(asked, group, first(&payload, n), &rows, count, out, at),
+    }
+}
+
+fn put_asked(
+    asked: Asked,
+    group: u32,
+    payload: &[u8],
+    rows: &[u32],
+    count: usize,
+    out: &mut [u8],
+    at: usize,
+) -> usize {
+    match asked {
+        Asked::Oriented => put_all_oriented(payload, rows, count, out, at),
+        Asked::Quaternions => put_groups(payload, rows, count, out, at),
+        Asked::Stamp => put_found(stamps::stamp_us(payload, rows, count, 1, group), out, at),
     }
 }
 
@@ -289,25 +322,6 @@ fn put_named_axes(oriented: Oriented, name: &[u8], out: &mut [u8], at: usize) ->
             put_letters(axes, out, end)
         }
         _ => at,
-    }
-}
-
-// quat HEX
-pub(crate) fn put_quaternions(hex: &[u8], out: &mut [u8], at: usize) -> usize {
-    let mut payload = file_buffer();
-    let Decoded::Bytes(n) = bytes_of(hex, &mut payload) else {
-        return put_unknown(out, at);
-    };
-    let mut rows = row_buffer();
-    match metadata::parse_metadata(first(&payload, n), false, &mut rows) {
-        Metadata::Refused {
-            number: _,
-            place: _,
-        } => text::put_bytes(out, at, b"err"),
-        Metadata::Rows {
-            rows: count,
-            headers: _,
-        } => put_groups(first(&payload, n), &rows, count, out, at),
     }
 }
 
@@ -397,31 +411,7 @@ pub(crate) fn put_stamp(group: &[u8], hex: &[u8], out: &mut [u8], at: usize) -> 
     let Number::Is(key) = line::hex_number(group) else {
         return put_unknown(out, at);
     };
-    let mut payload = file_buffer();
-    let Decoded::Bytes(n) = bytes_of(hex, &mut payload) else {
-        return put_unknown(out, at);
-    };
-    let mut rows = row_buffer();
-    match metadata::parse_metadata(first(&payload, n), false, &mut rows) {
-        Metadata::Refused {
-            number: _,
-            place: _,
-        } => text::put_bytes(out, at, b"err"),
-        Metadata::Rows {
-            rows: count,
-            headers: _,
-        } => put_found(
-            stamps::stamp_us(
-                first(&payload, n),
-                &rows,
-                count,
-                1,
-                (key % 0x1_0000_0000) as u32,
-            ),
-            out,
-            at,
-        ),
-    }
+    put_of_rows(Asked::Stamp, (key % 0x1_0000_0000) as u32, hex, out, at)
 }
 
 fn put_found(stamp: Stamp, out: &mut [u8], at: usize) -> usize {
