@@ -5,6 +5,7 @@ ghost use Rattle.axes.specs.Matrix.{threeAscii, axesOf, orientationsOf, 
 ghost use Rattle.axes.specs.Back.{beyond, axisOf, lettered, orientationOf, orientationIn};
 
 // Three axes in order, a character each.
+#[repr(C)]
 pub struct Axes {
     pub first: u8,
     pub second: u8,

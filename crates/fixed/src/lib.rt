@@ -6,6 +6,7 @@ ghost use Rattle.fixed.specs.Fixed.{q15-16, q31-32, q31-32-exact};
 const DIVISOR: i64 = 4294967295;
 
 // A fraction.
+#[repr(C)]
 pub struct Exact {
     pub numerator: i64,
     pub denominator: u64,

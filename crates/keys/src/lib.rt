@@ -98,6 +98,7 @@ pub fn tag_id(key: u32) -> u32
 }
 
 // A group: its number, 0 where its key has none, and its key, which is kept always.
+#[repr(C)]
 pub struct GroupId {
     pub number: u32,
     pub key: u32,

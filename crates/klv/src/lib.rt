@@ -8,6 +8,7 @@ ghost use Rattle.klv.specs.Header.{headerOfFirst, headerAt};
 ghost use Rattle.klv.specs.OneText.{oneText, typeText};
 
 // An item's header: its key as one number, its type byte, and the size and the repeat of its samples.
+#[repr(C)]
 pub struct KLV {
     pub key: u32,
     pub data_type: u8,
@@ -115,6 +116,7 @@ fn first_header(s: &[u8]) -> Header
 }
 
 // A place in a payload.
+#[repr(C)]
 pub struct Cursor {
     pub at: usize,
 }

@@ -10,6 +10,7 @@ ghost use Rattle.quaternions.specs.Quaternion.{negated16, scaledBy};
 ghost use Rattle.quaternions.specs.Scaled.{numberAt, scaleOf, quaternionAt, quaternionOf};
 ghost use Rattle.quaternions.specs.Ready.{Halves};
 
+#[repr(C)]
 pub struct Quaternion {
     pub w: f64,
     pub x: f64,

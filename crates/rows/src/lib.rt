@@ -7,6 +7,7 @@ ghost use Rattle.rows.specs.Row.{rowOf, rowAt, Put};
 ghost use Rattle.rows.specs.Lookup.{matching, lookupOf};
 
 // What the walk says of an item.
+#[repr(C)]
 pub struct Row {
     pub place: u32,
     pub group_kind: u32,

@@ -9,6 +9,7 @@ ghost use Rattle.text.specs.Numerals.{decimal};
 ghost use Rattle.take.specs.Take.{countsLine, packetLine, totalsLine, longPacket, LaysAll, Fronts, Takes};
 
 // A packet that was laid: the place behind it, and whether it was accepted.
+#[repr(C)]
 pub struct Taken {
     pub end: usize,
     pub accepted: bool,

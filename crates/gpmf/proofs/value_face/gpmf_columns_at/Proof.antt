@@ -1,0 +1,18 @@
+-- `gpmf_columns_at` meets its contract: it is the call of its name, told as a record. Assumes nothing.
+use mathlib.Core.Path.{ap, _∙_}
+use Rattle.answers.specs.Answers.{ofColumns}
+use borrow.Author.Needs.{needs}
+use Rattle.gpmf.proofs.value_face.gpmf_columns_at.Statement.{statement}
+use Rattle.gpmf.proofs.value_face.gpmf_columns_at.Tie as tie
+
+columns-at-requires : tie.Need-columns-at-requires
+columns-at-requires c κs = search needs
+
+of-columns-requires : tie.Need-of-columns-requires
+of-columns-requires c κs = search needs
+
+returns : tie.Need-returns
+returns c = c .of-columns .ensures ∙ ap ofColumns (c .before .columns-at .ensures)
+
+pub gpmf-columns-at-spec : {M : Type 1} → statement M
+gpmf-columns-at-spec = tie.close (tie.spec columns-at-requires of-columns-requires returns)

@@ -1,0 +1,46 @@
+-- What calls that write into lent numbers promise to a caller in another language: the answer as a record of numbers, and what was lent
+-- afterwards, as the calls themselves promise it. Assumes nothing: these are definitions.
+use Prim.Native.Nat.{ℕ}
+use mathlib.Core.Path.{_≡_}
+use mathlib.Core.Bool.{Bool}
+use mathlib.Core.List.{List}
+use lib.ListN.{length}
+use Rattle.custom_type.specs.Expansion.{expanded}
+use Rattle.custom_type.specs.Resolved as Resolved
+use Rattle.line.specs.Read.{decoded, decodedInto}
+use Rattle.reading.specs.Walk.{Outcome, roomOf}
+use Rattle.reading.specs.Answer.{lent}
+use Rattle.metadata.specs.Metadata.{told}
+use Rattle.raw_file.specs.Packets.{nextPacket}
+use Rattle.raw_file.specs.Window.{inWindow}
+use Rattle.raw_metadata.specs.Readings.{metadataOf, lentFor}
+use Rattle.raw_metadata.specs.Window.{metadataIn, lentIn}
+use Rattle.answers.specs.declared.WholeAnswer.{WholeAnswer}
+use Rattle.answers.specs.declared.MetadataAnswer.{MetadataAnswer}
+use Rattle.answers.specs.declared.PacketMetadataAnswer.{PacketMetadataAnswer}
+use Rattle.answers.specs.Answers.{ofExpanded, ofMetadata, ofNextMetadata, ofMetadataInWindow, ofDecoded}
+
+-- a TYPE text written out
+pub record ResolvedAs (text a b : List ℕ) (r : WholeAnswer) : Type 0 where
+  pub is : r ≡ ofExpanded (Resolved.told (expanded text))
+  pub out : b ≡ Resolved.laidIf (Resolved.fits (expanded text)) (expanded text) a
+
+-- the reading of a payload
+pub record ReadAs (outcome : Outcome) (old : List ℕ) (answer : MetadataAnswer) (new : List ℕ) : Type 0 where
+  pub is : answer ≡ ofMetadata (told outcome)
+  pub rows : new ≡ lent outcome old
+
+-- the next packet of a file, read
+pub record ReadNextAs (forced : Bool) (file : List ℕ) (at : ℕ) (old : List ℕ) (answer : PacketMetadataAnswer) (new : List ℕ) : Type 0 where
+  pub is : answer ≡ ofNextMetadata (metadataOf forced file (roomOf (length old)) (nextPacket file at))
+  pub rows : new ≡ lentFor forced file old (nextPacket file at)
+
+-- the same in a window of a file
+pub record ReadInWindowAs (forced : Bool) (bytes : List ℕ) (more : Bool) (at : ℕ) (old : List ℕ) (answer : PacketMetadataAnswer) (new : List ℕ) : Type 0 where
+  pub is : answer ≡ ofMetadataInWindow (metadataIn forced bytes (roomOf (length old)) (inWindow bytes more at))
+  pub rows : new ≡ lentIn forced bytes old (inWindow bytes more at)
+
+-- the bytes in hex digits
+pub record DecodesAs (s out : List ℕ) (answer : WholeAnswer) (after : List ℕ) : Type 0 where
+  pub is : answer ≡ ofDecoded (decoded s out)
+  pub leaves : after ≡ decodedInto s out
