@@ -376,7 +376,7 @@ gpmf_whole_answer gpmf_parse_utcdate(const uint8_t *text, size_t text_len);
 
 /* ---- what the first `count` rows of a reading lead to, for a group */
 
-/* The item of a group and tag (with tag 0, key). Refused with 5 as gpmf_lookup, with 2 or 12 where the row's place holds no such item. */
+/* The item of a group and tag (with tag 0, key). Refused with 1, with 5 as gpmf_lookup, with 2 or 12 where the row's place holds no such item. */
 gpmf_item_answer gpmf_tagged_item(const uint8_t *s, size_t s_len, const uint32_t *rows, size_t rows_len, size_t count, uint32_t group_kind, uint32_t group_key, uint32_t tag, uint32_t key);
 
 /* Whether the value under a header is one number of a letter. */
