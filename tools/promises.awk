@@ -1,5 +1,7 @@
 # Holds docs/PROMISES.md to the sources, and prints what does not fit: a public function without a line in its crate's section, a line
 # for a function that is not there, an empty cell, a line that does not name two must-fail edits and a theorem of one answer that are there.
+# The section `## gpmf` has a line for each exported function, or the word `none`, with the call that it is and how its answer is told; each other public call stands there once,
+# but for those of `answers`, which tell.
 # Reads lines `crate NAME`, `call CRATE FUNCTION`, `edit CRATE LABEL` and `theorem NAME`, then the document (-v document=..): a section `## CRATE` for each crate, and
 # in it a table of calls | definition | promise | one answer | must-fail edits | runs.
 
@@ -31,11 +33,33 @@ function is_settled(cell,    part) {
     return split(cell, part, "`") >= 3 && ("theorem " part[2]) in there
 }
 
+# A line of the exported functions: function | call | told as.
+function exported_line(    part, path) {
+    n = split($0, cell, "|")
+    if (n != 5) fault("a line of exported functions has " n - 2 " cells, and not 3: " $0)
+    for (i = 2; i < n; i++) if (cell[i] ~ /^[ \t]*$/) fault("a cell of an exported function is empty: " $0)
+    split(cell[2], part, "`")
+    if (cell[2] ~ /`/) {
+        if (("call gpmf " part[2]) in there) promised["call gpmf " part[2]]
+        else fault("crates/gpmf exports no `" part[2] "`")
+    }
+    split(cell[3], part, "`")
+    split(part[2], path, "::")
+    call = "call " path[1] " " path[2]
+    if (!(call in there)) fault("there is no public function `" part[2] "` to export")
+    else if (call in exported) fault("`" part[2] "` is exported twice")
+    exported[call]
+}
+
 FILENAME != document {
     there[$0]
     next
 }
 /^## / { section = $2 }
+section == "gpmf" && /^\| (`|none )/ {
+    exported_line()
+    next
+}
 /^\| `/ && ("crate " section) in there {
     n = split($0, cell, "|")
     call = name_in(cell[2])
@@ -50,5 +74,6 @@ END {
     for (one in there) {
         split(one, word, " ")
         if (word[1] == "call" && !(one in promised)) fault("no line for `" word[3] "` of crates/" word[2])
+        if (word[1] == "call" && ("crate gpmf") in there && word[2] !~ /^(gpmf|answers)$/ && !(one in exported)) fault("`" word[3] "` of crates/" word[2] " is not exported")
     }
 }

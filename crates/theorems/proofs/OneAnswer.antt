@@ -29,6 +29,64 @@ use Rattle.line.proofs.hex_number.Kinds as hex-number-kinds
 use Rattle.line.proofs.hex_number.Reads as hex-number-reads
 use Rattle.line.proofs.unhex.Kinds as unhex-kinds
 use Rattle.line.proofs.unhex.Reads as unhex-reads
+use Rattle.answers.proofs.of_expanded.Kinds as of-expanded-kinds
+use Rattle.answers.proofs.of_expanded.Reads as of-expanded-reads
+use Rattle.answers.proofs.of_date.Kinds as of-date-kinds
+use Rattle.answers.proofs.of_date.Reads as of-date-reads
+use Rattle.answers.proofs.of_columns.Kinds as of-columns-kinds
+use Rattle.answers.proofs.of_columns.Reads as of-columns-reads
+use Rattle.answers.proofs.of_found.Kinds as of-found-kinds
+use Rattle.answers.proofs.of_found.Reads as of-found-reads
+use Rattle.answers.proofs.of_stamp.Kinds as of-stamp-kinds
+use Rattle.answers.proofs.of_stamp.Reads as of-stamp-reads
+use Rattle.answers.proofs.of_devc.Kinds as of-devc-kinds
+use Rattle.answers.proofs.of_devc.Reads as of-devc-reads
+use Rattle.answers.proofs.of_number.Kinds as of-number-kinds
+use Rattle.answers.proofs.of_number.Reads as of-number-reads
+use Rattle.answers.proofs.of_decoded.Kinds as of-decoded-kinds
+use Rattle.answers.proofs.of_decoded.Reads as of-decoded-reads
+use Rattle.answers.proofs.of_average.Kinds as of-average-kinds
+use Rattle.answers.proofs.of_average.Reads as of-average-reads
+use Rattle.answers.proofs.of_header.Kinds as of-header-kinds
+use Rattle.answers.proofs.of_header.Reads as of-header-reads
+use Rattle.answers.proofs.of_last_item.Kinds as of-last-item-kinds
+use Rattle.answers.proofs.of_last_item.Reads as of-last-item-reads
+use Rattle.answers.proofs.of_tagged.Kinds as of-tagged-kinds
+use Rattle.answers.proofs.of_tagged.Reads as of-tagged-reads
+use Rattle.answers.proofs.of_element.Kinds as of-element-kinds
+use Rattle.answers.proofs.of_element.Reads as of-element-reads
+use Rattle.answers.proofs.of_read.Kinds as of-read-kinds
+use Rattle.answers.proofs.of_read.Reads as of-read-reads
+use Rattle.answers.proofs.of_kind.Kinds as of-kind-kinds
+use Rattle.answers.proofs.of_kind.Reads as of-kind-reads
+use Rattle.answers.proofs.of_shaped.Kinds as of-shaped-kinds
+use Rattle.answers.proofs.of_shaped.Reads as of-shaped-reads
+use Rattle.answers.proofs.of_row_at.Kinds as of-row-at-kinds
+use Rattle.answers.proofs.of_row_at.Reads as of-row-at-reads
+use Rattle.answers.proofs.of_metadata.Kinds as of-metadata-kinds
+use Rattle.answers.proofs.of_metadata.Reads as of-metadata-reads
+use Rattle.answers.proofs.to_metadata.Kinds as to-metadata-kinds
+use Rattle.answers.proofs.to_metadata.Reads as to-metadata-reads
+use Rattle.answers.proofs.of_orientation.Kinds as of-orientation-kinds
+use Rattle.answers.proofs.of_orientation.Reads as of-orientation-reads
+use Rattle.answers.proofs.of_oriented.Kinds as of-oriented-kinds
+use Rattle.answers.proofs.of_oriented.Reads as of-oriented-reads
+use Rattle.answers.proofs.of_orientations.Kinds as of-orientations-kinds
+use Rattle.answers.proofs.of_orientations.Reads as of-orientations-reads
+use Rattle.answers.proofs.of_scaled_row.Kinds as of-scaled-row-kinds
+use Rattle.answers.proofs.of_scaled_row.Reads as of-scaled-row-reads
+use Rattle.answers.proofs.of_next_packet.Kinds as of-next-packet-kinds
+use Rattle.answers.proofs.of_next_packet.Reads as of-next-packet-reads
+use Rattle.answers.proofs.of_in_window.Kinds as of-in-window-kinds
+use Rattle.answers.proofs.of_in_window.Reads as of-in-window-reads
+use Rattle.answers.proofs.of_next_metadata.Kinds as of-next-metadata-kinds
+use Rattle.answers.proofs.of_next_metadata.Reads as of-next-metadata-reads
+use Rattle.answers.proofs.of_metadata_in_window.Kinds as of-metadata-in-window-kinds
+use Rattle.answers.proofs.of_metadata_in_window.Reads as of-metadata-in-window-reads
+use Rattle.answers.proofs.of_matrix.Kinds as of-matrix-kinds
+use Rattle.answers.proofs.of_matrix.Reads as of-matrix-reads
+use Rattle.answers.proofs.to_matrix.Kinds as to-matrix-kinds
+use Rattle.answers.proofs.to_matrix.Reads as to-matrix-reads
 use Rattle.keys.proofs.tag_id.Kinds as tag-id-kinds
 use Rattle.keys.proofs.tag_id.Reads as tag-id-reads
 use Rattle.keys.proofs.group_from_key.Kinds as group-from-key-kinds
@@ -362,3 +420,90 @@ put-long-packet κs a x y s t p q = (p .is ∙ sym (q .is), p .leaves ∙ sym (q
 
 pub put-totals : OneAnswer 1 put-totals-kinds.ps put-totals-kinds.r put-totals-reads.Learnt (λ κs s. now (s .0))
 put-totals κs a x y s t p q = (p .is ∙ sym (q .is), p .leaves ∙ sym (q .leaves))
+
+pub of-expanded : OneResult 0 of-expanded-kinds.ps of-expanded-kinds.r of-expanded-reads.Learnt
+of-expanded κs a x y s t p q = p ∙ sym q
+
+pub of-date : OneResult 0 of-date-kinds.ps of-date-kinds.r of-date-reads.Learnt
+of-date κs a x y s t p q = p ∙ sym q
+
+pub of-columns : OneResult 0 of-columns-kinds.ps of-columns-kinds.r of-columns-reads.Learnt
+of-columns κs a x y s t p q = p ∙ sym q
+
+pub of-found : OneResult 0 of-found-kinds.ps of-found-kinds.r of-found-reads.Learnt
+of-found κs a x y s t p q = p ∙ sym q
+
+pub of-stamp : OneResult 0 of-stamp-kinds.ps of-stamp-kinds.r of-stamp-reads.Learnt
+of-stamp κs a x y s t p q = p ∙ sym q
+
+pub of-devc : OneResult 0 of-devc-kinds.ps of-devc-kinds.r of-devc-reads.Learnt
+of-devc κs a x y s t p q = p ∙ sym q
+
+pub of-number : OneResult 0 of-number-kinds.ps of-number-kinds.r of-number-reads.Learnt
+of-number κs a x y s t p q = p ∙ sym q
+
+pub of-decoded : OneResult 0 of-decoded-kinds.ps of-decoded-kinds.r of-decoded-reads.Learnt
+of-decoded κs a x y s t p q = p ∙ sym q
+
+pub of-average : OneResult 0 of-average-kinds.ps of-average-kinds.r of-average-reads.Learnt
+of-average κs a x y s t p q = p ∙ sym q
+
+pub of-header : OneResult 0 of-header-kinds.ps of-header-kinds.r of-header-reads.Learnt
+of-header κs a x y s t p q = p ∙ sym q
+
+pub of-last-item : OneResult 0 of-last-item-kinds.ps of-last-item-kinds.r of-last-item-reads.Learnt
+of-last-item κs a x y s t p q = p ∙ sym q
+
+pub of-tagged : OneResult 0 of-tagged-kinds.ps of-tagged-kinds.r of-tagged-reads.Learnt
+of-tagged κs a x y s t p q = p ∙ sym q
+
+pub of-element : OneResult 0 of-element-kinds.ps of-element-kinds.r of-element-reads.Learnt
+of-element κs a x y s t p q = p ∙ sym q
+
+pub of-read : OneResult 0 of-read-kinds.ps of-read-kinds.r of-read-reads.Learnt
+of-read κs a x y s t p q = p ∙ sym q
+
+pub of-kind : OneResult 0 of-kind-kinds.ps of-kind-kinds.r of-kind-reads.Learnt
+of-kind κs a x y s t p q = p ∙ sym q
+
+pub of-shaped : OneResult 0 of-shaped-kinds.ps of-shaped-kinds.r of-shaped-reads.Learnt
+of-shaped κs a x y s t p q = p ∙ sym q
+
+pub of-row-at : OneResult 0 of-row-at-kinds.ps of-row-at-kinds.r of-row-at-reads.Learnt
+of-row-at κs a x y s t p q = p ∙ sym q
+
+pub of-metadata : OneResult 0 of-metadata-kinds.ps of-metadata-kinds.r of-metadata-reads.Learnt
+of-metadata κs a x y s t p q = p ∙ sym q
+
+pub to-metadata : OneResult 0 to-metadata-kinds.ps to-metadata-kinds.r to-metadata-reads.Learnt
+to-metadata κs a x y s t p q = p ∙ sym q
+
+pub of-orientation : OneResult 0 of-orientation-kinds.ps of-orientation-kinds.r of-orientation-reads.Learnt
+of-orientation κs a x y s t p q = p ∙ sym q
+
+pub of-oriented : OneResult 0 of-oriented-kinds.ps of-oriented-kinds.r of-oriented-reads.Learnt
+of-oriented κs a x y s t p q = p ∙ sym q
+
+pub of-orientations : OneResult 0 of-orientations-kinds.ps of-orientations-kinds.r of-orientations-reads.Learnt
+of-orientations κs a x y s t p q = p ∙ sym q
+
+pub of-scaled-row : OneResult 0 of-scaled-row-kinds.ps of-scaled-row-kinds.r of-scaled-row-reads.Learnt
+of-scaled-row κs a x y s t p q = p ∙ sym q
+
+pub of-next-packet : OneResult 0 of-next-packet-kinds.ps of-next-packet-kinds.r of-next-packet-reads.Learnt
+of-next-packet κs a x y s t p q = p ∙ sym q
+
+pub of-in-window : OneResult 0 of-in-window-kinds.ps of-in-window-kinds.r of-in-window-reads.Learnt
+of-in-window κs a x y s t p q = p ∙ sym q
+
+pub of-next-metadata : OneResult 0 of-next-metadata-kinds.ps of-next-metadata-kinds.r of-next-metadata-reads.Learnt
+of-next-metadata κs a x y s t p q = p ∙ sym q
+
+pub of-metadata-in-window : OneResult 0 of-metadata-in-window-kinds.ps of-metadata-in-window-kinds.r of-metadata-in-window-reads.Learnt
+of-metadata-in-window κs a x y s t p q = p ∙ sym q
+
+pub of-matrix : OneResult 0 of-matrix-kinds.ps of-matrix-kinds.r of-matrix-reads.Learnt
+of-matrix κs a x y s t p q = p ∙ sym q
+
+pub to-matrix : OneResult 0 to-matrix-kinds.ps to-matrix-kinds.r to-matrix-reads.Learnt
+to-matrix κs a x y s t p q = p ∙ sym q
