@@ -44,6 +44,9 @@ impl KLV {
     }
 }
 
+// The most bytes that a payload may have.
+pub const MOST_BYTES: usize = 1048576;
+
 // The key of the item that describes structures.
 pub const TYPE: u32 = 0x54595045;
 

@@ -2,6 +2,7 @@
 use klv::Cursor;
 use klv::Header;
 use klv::KLV;
+use klv::MOST_BYTES;
 ghost use mathlib.Core.Path.{_≡_};
 ghost use lib.ListN.{drop};
 ghost use Rattle.klv.specs.Level.{itemsOf};
@@ -40,9 +41,6 @@ pub fn last_item(s: &[u8], at: usize) -> LastItem
     }
     last
 }
-
-// The most bytes that a payload may have.
-pub const MOST_BYTES: usize = 1048576;
 
 // The last item of a payload.
 pub fn get_last_klv(payload: &[u8]) -> LastItem
