@@ -59,14 +59,14 @@ use Rattle.stamps.specs.declared.Stamp.{Stamp}
 use Rattle.stamps.specs.declared.Stamp.the-variants as stamp
 use Rattle.tagged.specs.declared.Tagged.{Tagged}
 use Rattle.tagged.specs.declared.Tagged.the-variants as tagged
-use Rattle.values.specs.declared.Kind.{Kind}
-use Rattle.values.specs.declared.Kind.the-variants as kind
-use Rattle.values.specs.declared.Shaped.{Shaped}
-use Rattle.values.specs.declared.Shaped.the-variants as shaped
-use Rattle.values.specs.declared.Columns.{Columns}
-use Rattle.values.specs.declared.Columns.the-variants as columns
-use Rattle.values.specs.declared.Read.{Read}
-use Rattle.values.specs.declared.Read.the-variants as read-as
+use Rattle.value.specs.declared.Kind.{Kind}
+use Rattle.value.specs.declared.Kind.the-variants as kind
+use Rattle.value.specs.declared.Shaped.{Shaped}
+use Rattle.value.specs.declared.Shaped.the-variants as shaped
+use Rattle.value.specs.declared.Columns.{Columns}
+use Rattle.value.specs.declared.Columns.the-variants as columns
+use Rattle.value.specs.declared.Read.{Read}
+use Rattle.value.specs.declared.Read.the-variants as read-as
 use Rattle.answers.specs.declared.WholeAnswer.{WholeAnswer}
 use Rattle.answers.specs.declared.RealAnswer.{RealAnswer}
 use Rattle.answers.specs.declared.ItemAnswer.{ItemAnswer}

@@ -24,10 +24,10 @@ use rows::Row;
 use rows::RowAt;
 use stamps::Stamp;
 use tagged::Tagged;
-use values::Columns;
-use values::Kind;
-use values::Read;
-use values::Shaped;
+use value::Columns;
+use value::Kind;
+use value::Read;
+use value::Shaped;
 ghost use mathlib.Core.Path.{_≡_};
 ghost use Rattle.answers.specs.Answers as tells;
 

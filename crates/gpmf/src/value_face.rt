@@ -3,7 +3,8 @@ use answers::ElementAnswer;
 use answers::ShapeAnswer;
 use answers::WholeAnswer;
 ghost use mathlib.Core.Path.{_≡_};
-ghost use Rattle.values.specs.At.{foundAt, elementOfFound, shapeOfFound, columnsOfFound};
+ghost use Rattle.items.specs.At.{foundAt};
+ghost use Rattle.values.specs.At.{elementOfFound, shapeOfFound, columnsOfFound};
 ghost use Rattle.answers.specs.Answers.{ofRead, ofShaped, ofColumns};
 
 // The element at a row and a column.

@@ -6,10 +6,10 @@ use mathlib.Core.Bool.{Bool, true, false, cond, _&&_}
 use mathlib.Core.List.{List, List·Memᴰ}
 use lib.Dec.{ltb}
 use Rattle.reading.specs.Record.{Record}
-use Rattle.values.specs.declared.Read.the-variants as read
-use Rattle.values.specs.declared.Columns.the-variants as columns
-use Rattle.values.specs.Value.{Outcome, readable, refused, valueOf}
-use Rattle.values.specs.At.{elementIn, shapeIn, columnsIn}
+use Rattle.value.specs.declared.Read.the-variants as read
+use Rattle.value.specs.declared.Columns.the-variants as columns
+use Rattle.value.specs.Value.{Outcome, readable, refused, valueOf}
+use Rattle.value.specs.Answer.{elementIn, shapeIn, columnsIn}
 use Rattle.newer_camera.specs.PutIn.{PutIn}
 use Rattle.newer_camera.specs.Rows.{moved}
 use Rattle.newer_camera.specs.OldReader.{textFor, Kept, Accepted}

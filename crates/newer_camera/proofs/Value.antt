@@ -19,8 +19,8 @@ use Rattle.reading.specs.Record.{TypeInForce, noType, typeAt, Record, typePlace
 use Rattle.reading.specs.Walk.{rowItem}
 use Rattle.reading.proofs.Role.{Means, role-means}
 use Rattle.reading.proofs.Stand.{ItemStands, InForceStands, Stands}
-use Rattle.values.specs.At as At
-use Rattle.values.specs.At.{named, typeFor, found, foundBy, foundAt, wholeIf}
+use Rattle.items.specs.At as At
+use Rattle.items.specs.At.{named, typeFor, found, foundBy, foundAt, wholeIf}
 use Rattle.newer_camera.specs.Rows.{movedType, movedBy}
 use Rattle.newer_camera.specs.OldReader.{textInForce, foundFor, textFor, ownValue}
 

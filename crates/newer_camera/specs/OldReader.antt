@@ -13,7 +13,7 @@ use Rattle.reading.specs.Record.{TypeInForce, noType, typeAt, Record, typePlace
 use Rattle.reading.specs.Walk.{Outcome, accepted, refused}
 use Rattle.reading.specs.Answer.{answer}
 use Rattle.texts.specs.Kept.{kept}
-use Rattle.values.specs.At.{Found, found, foundAt}
+use Rattle.items.specs.At.{Found, found, foundAt}
 use Rattle.newer_camera.specs.PutIn.{PutIn}
 use Rattle.newer_camera.specs.Rows.{newRows, moved}
 use Rattle.newer_camera.specs.OtherBytes.{OtherBytes, putAgain}

@@ -4,12 +4,12 @@ use Prim.Native.Nat.{ℕ}
 use mathlib.Core.Path.{_≡_}
 use mathlib.Core.List.{List}
 use Rattle.reading.specs.Record.{Record}
-use Rattle.values.specs.declared.Read.{Read}
-use Rattle.values.specs.declared.Read.the-variants as read
-use Rattle.values.specs.declared.Shaped.{Shaped}
-use Rattle.values.specs.declared.Shaped.the-variants as shaped
-use Rattle.values.specs.declared.Columns.{Columns}
-use Rattle.values.specs.declared.Columns.the-variants as columns
+use Rattle.value.specs.declared.Read.{Read}
+use Rattle.value.specs.declared.Read.the-variants as read
+use Rattle.value.specs.declared.Shaped.{Shaped}
+use Rattle.value.specs.declared.Shaped.the-variants as shaped
+use Rattle.value.specs.declared.Columns.{Columns}
+use Rattle.value.specs.declared.Columns.the-variants as columns
 use Rattle.values.specs.At.{elementOfFound, shapeOfFound, columnsOfFound}
 use Rattle.newer_camera.specs.OldReader.{foundFor}
 

@@ -13,8 +13,8 @@ use Rattle.klv.specs.Item.{firstItem}
 use Rattle.klv.specs.OneText.{oneText}
 use Rattle.elements.specs.Types.{widthOf}
 use Rattle.elements.specs.Element.{elementOf, elementAt}
-use Rattle.values.specs.Value.{kindOf, isQuaternions, letterPlan, planOf}
-use Rattle.values.specs.At.{foundAt}
+use Rattle.value.specs.Value.{kindOf, isQuaternions, letterPlan, planOf}
+use Rattle.items.specs.At.{foundAt}
 use Rattle.rows.specs.Lookup.{rowsOf, matching, lastFrom, lookupOf}
 use Rattle.axes.specs.Matrix.{threeAscii, orientationsOf, entryOf}
 use Rattle.axes.specs.Back.{beyond, lettered, orientationIn}

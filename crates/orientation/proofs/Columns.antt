@@ -11,7 +11,7 @@ use Rattle.axes.specs.declared.Orientations.{Orientations}
 use Rattle.axes.specs.Matrix.{orientationsOf}
 use Rattle.axes.specs.Back.{orientationIn}
 use Rattle.axes.proofs.Lengths.{orin-not-three, orio-not-three, not-nine}
-use Rattle.values.specs.declared.Read.{Read}
+use Rattle.value.specs.declared.Read.{Read}
 use Rattle.orientation.specs.declared.Form.the-variants as form
 use Rattle.orientation.specs.declared.Text.the-variants.{Long}
 use Rattle.orientation.specs.declared.Oriented.{Oriented}

@@ -18,10 +18,11 @@ use Rattle.rows.specs.declared.Found.{Found}
 use Rattle.rows.specs.declared.Found.the-variants as found
 use Rattle.rows.specs.Row.{rowOf}
 use Rattle.rows.specs.Lookup.{lookupOf}
-use Rattle.values.specs.declared.Read.{Read}
-use Rattle.values.specs.declared.Shaped.{Shaped}
-use Rattle.values.specs.declared.Shaped.the-variants as shaped
-use Rattle.values.specs.At.{foundAt, elementOfFound, shapeOfFound}
+use Rattle.value.specs.declared.Read.{Read}
+use Rattle.value.specs.declared.Shaped.{Shaped}
+use Rattle.value.specs.declared.Shaped.the-variants as shaped
+use Rattle.items.specs.At.{foundAt}
+use Rattle.values.specs.At.{elementOfFound, shapeOfFound}
 use Rattle.orientation.specs.declared.Form.{Form}
 use Rattle.orientation.specs.declared.Form.the-variants as form
 use Rattle.orientation.specs.declared.Text.{Text}

@@ -7,12 +7,12 @@ use lib.Dec.{ltb}
 use lib.IntN.{pos}
 use lib.Ieee.{Float, fin}
 use Rattle.elements.specs.declared.Element.the-variants.{Signed, Unsigned, Single, Double}
-use Rattle.values.specs.declared.Kind.{Kind}
-use Rattle.values.specs.declared.Kind.the-variants as kind
-use Rattle.values.specs.declared.Read.{Read}
-use Rattle.values.specs.declared.Read.the-variants as read
-use Rattle.values.specs.declared.Shaped.{Shaped}
-use Rattle.values.specs.declared.Shaped.the-variants as shaped
+use Rattle.value.specs.declared.Kind.{Kind}
+use Rattle.value.specs.declared.Kind.the-variants as kind
+use Rattle.value.specs.declared.Read.{Read}
+use Rattle.value.specs.declared.Read.the-variants as read
+use Rattle.value.specs.declared.Shaped.{Shaped}
+use Rattle.value.specs.declared.Shaped.the-variants as shaped
 use Rattle.orientation.specs.declared.Form.{Form}
 use Rattle.orientation.specs.declared.Form.the-variants as form
 use Rattle.orientation.specs.declared.Text.{Text}

@@ -5,9 +5,9 @@ use axes::Orientations;
 use elements::Element;
 use rows::Found;
 use rows::RowAt;
-use values::Kind;
-use values::Read;
-use values::Shaped;
+use value::Kind;
+use value::Read;
+use value::Shaped;
 ghost use mathlib.Core.Path.{_≡_};
 ghost use Rattle.orientation.specs.Row.{formOf, byteOf, isSingle, singleOf, textBy, bytesOf, singlesOf};
 ghost use Rattle.orientation.specs.Group.{itemOf, told, byOrientations, byTexts, byRows, byMatrix, shapeThere, firstRow, byPair, orientationInGroup, orientationOfGroup};
@@ -340,7 +340,7 @@ pub fn orientation_of_group(
 ) -> Oriented
     ensures { λ r. ⌜ r ≡ orientationOfGroup (now (payload .entry)) (now (rows .entry)) count «group_kind» «group_key» ⌝ }
 {
-    if values::LIMIT < payload.len() {
+    if klv::MOST_BYTES < payload.len() {
         return Oriented::Refused {
             number: TOO_LONG,
             place: 0,

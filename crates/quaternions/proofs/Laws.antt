@@ -10,9 +10,9 @@ use Rattle.foundation.specs.BigEndian.{AreBytes}
 use Rattle.foundation.specs.Text.{key}
 use Rattle.klv.specs.declared.KLV.{KLV}
 use Rattle.elements.specs.declared.Element.{Element}
-use Rattle.values.specs.Value.{isQuaternions}
-use Rattle.values.specs.declared.Read.{Read}
-use Rattle.values.specs.declared.Read.the-variants as read
+use Rattle.value.specs.Value.{isQuaternions}
+use Rattle.value.specs.declared.Read.{Read}
+use Rattle.value.specs.declared.Read.the-variants as read
 use Rattle.tagged.specs.Tagged.{taggedOf, oneNumber}
 use Rattle.tagged.specs.Number.{Sixteen, Held}
 use Rattle.tagged.specs.declared.Tagged.{Tagged}

@@ -7,10 +7,11 @@ use mathlib.Core.List.{List}
 use lib.IntN.{pos}
 use lib.Ieee.{Float, binary64, ofInt}
 use Rattle.foundation.specs.Text.{key}
-use Rattle.values.specs.Value.{isQuaternions}
-use Rattle.values.specs.At.{foundAt, elementOfFound}
-use Rattle.values.specs.declared.Read.{Read}
-use Rattle.values.specs.declared.Read.the-variants as read
+use Rattle.value.specs.Value.{isQuaternions}
+use Rattle.items.specs.At.{foundAt}
+use Rattle.values.specs.At.{elementOfFound}
+use Rattle.value.specs.declared.Read.{Read}
+use Rattle.value.specs.declared.Read.the-variants as read
 use Rattle.tagged.specs.Tagged.{taggedOf, oneNumber}
 use Rattle.tagged.specs.Number.{signedNumber}
 use Rattle.tagged.specs.declared.Tagged.{Tagged}

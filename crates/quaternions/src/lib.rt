@@ -2,10 +2,10 @@
 use elements::Element;
 use klv::KLV;
 use tagged::Tagged;
-use values::Read;
+use value::Read;
 ghost use mathlib.Core.Path.{_≡_};
 ghost use Rattle.tagged.specs.Number.{signedNumber, Sixteen};
-ghost use Rattle.values.specs.Value.{isQuaternions};
+ghost use Rattle.value.specs.Value.{isQuaternions};
 ghost use Rattle.quaternions.specs.Quaternion.{negated16, scaledBy};
 ghost use Rattle.quaternions.specs.Scaled.{numberAt, scaleOf, quaternionAt, quaternionOf};
 ghost use Rattle.quaternions.specs.Ready.{Halves};
@@ -61,7 +61,7 @@ fn number_at(s: &[u8], at: usize, row: usize, column: usize) -> Number
     requires { ⌜ Halves (now s) at ⌝ }
     ensures { λ r. ⌜ r ≡ numberAt (now (s .entry)) at row column ⌝ }
 {
-    match values::element(s, at, values::NO_TYPE, row, column) {
+    match values::element(s, at, items::NO_TYPE, row, column) {
         Read::Refused { number, place } => Number::Refused { number, place },
         Read::Is(e) => Number::Is(sixteen(e)),
     }

@@ -2,11 +2,11 @@
 use elements::Element;
 use klv::Cursor;
 use klv::Header;
-use values::Columns;
-use values::Kind;
-use values::Read;
-use values::Shape;
-use values::Shaped;
+use value::Columns;
+use value::Kind;
+use value::Read;
+use value::Shape;
+use value::Shaped;
 
 // A number with a space before it.
 pub(crate) fn put_number(n: u64, out: &mut [u8], at: usize) -> usize {

@@ -16,11 +16,13 @@ use Rattle.klv.proofs.Place.{first-item}
 use Rattle.elements.specs.declared.Element.{Element}
 use Rattle.elements.specs.Types.{widthOf}
 use Rattle.elements.specs.Element.{elementAt}
-use Rattle.values.specs.declared.grid.Grid.{Grid}
-use Rattle.values.specs.declared.Read.{Read}
-use Rattle.values.specs.declared.Read.the-variants as read
-use Rattle.values.specs.Value.{Value, readable, refused, placed, gridded, numbers, isQuaternions, quaternions, planOf, valueOf}
-use Rattle.values.specs.At.{Named, named, bad, typeFor, Found, stopped, wholeIf, foundBy, foundAt, elementIn, elementOfFound}
+use Rattle.value.specs.declared.Grid.{Grid}
+use Rattle.value.specs.declared.Read.{Read}
+use Rattle.value.specs.declared.Read.the-variants as read
+use Rattle.value.specs.Value.{Value, readable, refused, placed, gridded, numbers, isQuaternions, quaternions, planOf, valueOf}
+use Rattle.items.specs.At.{Named, named, bad, typeFor, Found, stopped, wholeIf, foundBy, foundAt}
+use Rattle.value.specs.Answer.{elementIn}
+use Rattle.values.specs.At.{elementOfFound}
 use Rattle.tagged.specs.Number.{Held}
 use Rattle.tagged.proofs.Laws.{first-holds}
 

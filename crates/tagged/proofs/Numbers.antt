@@ -22,7 +22,8 @@ use Rattle.elements.specs.declared.Element.{Element}
 use Rattle.elements.specs.declared.Element.the-variants.{Signed, Unsigned}
 use Rattle.elements.specs.Types.{widthOf}
 use Rattle.elements.specs.Element.{signedOf, elementOf, elementAt}
-use Rattle.values.specs.At.{foundAt, elementOfFound}
+use Rattle.items.specs.At.{foundAt}
+use Rattle.values.specs.At.{elementOfFound}
 use Rattle.tagged.specs.Number.{Sixteen, ThirtyTwo, Held}
 use Rattle.tagged.proofs.Inside.{element-held}
 

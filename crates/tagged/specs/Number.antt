@@ -6,8 +6,8 @@ use mir.Syntax.{w16}
 use mir.Val.{SFits}
 use Rattle.elements.specs.declared.Element.{Element}
 use Rattle.elements.specs.declared.Element.the-variants.{Signed, Unsigned, Single, Double}
-use Rattle.values.specs.declared.Read.{Read}
-use Rattle.values.specs.declared.Read.the-variants as read
+use Rattle.value.specs.declared.Read.{Read}
+use Rattle.value.specs.declared.Read.the-variants as read
 
 -- the number of a signed letter, and 0 for any other element
 abbrev pub signedNumber : Element → ℤ

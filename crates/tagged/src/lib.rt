@@ -61,7 +61,7 @@ pub fn tagged_item(
 ) -> Tagged
     ensures { λ r. ⌜ r ≡ taggedOf (now (s .entry)) (now (rows .entry)) count «group_kind» «group_key» tag key ⌝ }
 {
-    if values::LIMIT < s.len() {
+    if klv::MOST_BYTES < s.len() {
         return Tagged::Refused {
             number: TOO_LONG,
             place: 0,

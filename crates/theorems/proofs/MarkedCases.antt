@@ -29,10 +29,11 @@ use Rattle.custom_type.specs.Expansion.{copied, step, goneThrough, expanded}
 use Rattle.dates.specs.Calendar.{millisecondsOf, possibleDay, possibleTime, daysOfMonth, daysOfMonths, daysOfYear, daysOfYears}
 use Rattle.dates.specs.Fields.{dayOf, timeOf, year, unsigned, digitsAfter}
 use Rattle.dates.specs.Date.{dateOf}
-use Rattle.values.specs.declared.Read.{Read}
-use Rattle.values.specs.declared.Read.the-variants as read
-use Rattle.values.specs.Value.{kindOf, isQuaternions, letterPlan, planOf}
-use Rattle.values.specs.At.{foundAt, elementOfFound}
+use Rattle.value.specs.declared.Read.{Read}
+use Rattle.value.specs.declared.Read.the-variants as read
+use Rattle.value.specs.Value.{kindOf, isQuaternions, letterPlan, planOf}
+use Rattle.items.specs.At.{foundAt}
+use Rattle.values.specs.At.{elementOfFound}
 use Rattle.axes.specs.declared.Axes.{Axes}
 use Rattle.axes.specs.declared.Orientation.{Orientation}
 use Rattle.axes.specs.declared.Orientation.the-variants as orientation

@@ -139,6 +139,28 @@ use Rattle.elements.proofs.width.Kinds as width-kinds
 use Rattle.elements.proofs.width.Reads as width-reads
 use Rattle.elements.proofs.element_at.Kinds as element-at-kinds
 use Rattle.elements.proofs.element_at.Reads as element-at-reads
+use Rattle.text_values.proofs.element.Kinds as text-element-kinds
+use Rattle.text_values.proofs.element.Reads as text-element-reads
+use Rattle.text_values.proofs.columns.Kinds as text-columns-kinds
+use Rattle.text_values.proofs.columns.Reads as text-columns-reads
+use Rattle.text_values.proofs.shape.Kinds as text-shape-kinds
+use Rattle.text_values.proofs.shape.Reads as text-shape-reads
+use Rattle.text_values.proofs.date_element.Kinds as date-element-kinds
+use Rattle.text_values.proofs.date_element.Reads as date-element-reads
+use Rattle.text_values.proofs.date_shape.Kinds as date-shape-kinds
+use Rattle.text_values.proofs.date_shape.Reads as date-shape-reads
+use Rattle.structures.proofs.element.Kinds as structure-element-kinds
+use Rattle.structures.proofs.element.Reads as structure-element-reads
+use Rattle.structures.proofs.shape.Kinds as structure-shape-kinds
+use Rattle.structures.proofs.shape.Reads as structure-shape-reads
+use Rattle.payload_values.proofs.element_of.Kinds as element-of-kinds
+use Rattle.payload_values.proofs.element_of.Reads as element-of-reads
+use Rattle.payload_values.proofs.shape_of.Kinds as shape-of-kinds
+use Rattle.payload_values.proofs.shape_of.Reads as shape-of-reads
+use Rattle.payload_values.proofs.columns_of.Kinds as columns-of-kinds
+use Rattle.payload_values.proofs.columns_of.Reads as columns-of-reads
+use Rattle.items.proofs.item_at.Kinds as item-at-kinds
+use Rattle.items.proofs.item_at.Reads as item-at-reads
 use Rattle.values.proofs.element.Kinds as element-kinds
 use Rattle.values.proofs.element.Reads as element-reads
 use Rattle.values.proofs.shape_at.Kinds as shape-at-kinds
@@ -278,6 +300,39 @@ width κs a x y s t p q = p .0 ∙ sym (q .0)
 
 pub element-at : OneResult 1 element-at-kinds.ps element-at-kinds.r element-at-reads.Learnt
 element-at κs a x y s t p q = p ∙ sym q
+
+pub text-element : OneResult 1 text-element-kinds.ps text-element-kinds.r text-element-reads.Learnt
+text-element κs a x y s t p q = p ∙ sym q
+
+pub text-columns : OneResult 1 text-columns-kinds.ps text-columns-kinds.r text-columns-reads.Learnt
+text-columns κs a x y s t p q = p ∙ sym q
+
+pub text-shape : OneResult 1 text-shape-kinds.ps text-shape-kinds.r text-shape-reads.Learnt
+text-shape κs a x y s t p q = p ∙ sym q
+
+pub date-element : OneResult 1 date-element-kinds.ps date-element-kinds.r date-element-reads.Learnt
+date-element κs a x y s t p q = p ∙ sym q
+
+pub date-shape : OneResult 1 date-shape-kinds.ps date-shape-kinds.r date-shape-reads.Learnt
+date-shape κs a x y s t p q = p ∙ sym q
+
+pub structure-element : OneResult 2 structure-element-kinds.ps structure-element-kinds.r structure-element-reads.Learnt
+structure-element κs a x y s t p q = p ∙ sym q
+
+pub structure-shape : OneResult 2 structure-shape-kinds.ps structure-shape-kinds.r structure-shape-reads.Learnt
+structure-shape κs a x y s t p q = p ∙ sym q
+
+pub element-of : OneResult 2 element-of-kinds.ps element-of-kinds.r element-of-reads.Learnt
+element-of κs a x y s t p q = p ∙ sym q
+
+pub shape-of : OneResult 2 shape-of-kinds.ps shape-of-kinds.r shape-of-reads.Learnt
+shape-of κs a x y s t p q = p ∙ sym q
+
+pub columns-of : OneResult 2 columns-of-kinds.ps columns-of-kinds.r columns-of-reads.Learnt
+columns-of κs a x y s t p q = p ∙ sym q
+
+pub item-at : OneResult 1 item-at-kinds.ps item-at-kinds.r item-at-reads.Learnt
+item-at κs a x y s t p q = p .is ∙ sym (q .is)
 
 pub element : OneResult 1 element-kinds.ps element-kinds.r element-reads.Learnt
 element κs a x y s t p q = p ∙ sym q

@@ -22,11 +22,11 @@ use Rattle.dates.specs.declared.Date.{Date}
 use Rattle.dates.specs.declared.Date.the-variants.{Milliseconds, TooFew, Unreadable}
 use Rattle.dates.specs.Date.{dateOf}
 use Rattle.custom_type.specs.Expansion.{expanded}
-use Rattle.values.specs.declared.plan.Plan.{Plan}
-use Rattle.values.specs.declared.plan.Plan.the-variants as plan
-use Rattle.values.specs.declared.grid.Grid.{Grid}
-use Rattle.values.specs.Value.{Value, Outcome, readable, refused, placed, gridded, unknown, texts, dated, widthsOf, structured, structures, reading, planOf, valueBy, valueOf}
-use Rattle.values.specs.At.{found, foundAt}
+use Rattle.value.specs.declared.Plan.{Plan}
+use Rattle.value.specs.declared.Plan.the-variants as plan
+use Rattle.value.specs.declared.Grid.{Grid}
+use Rattle.value.specs.Value.{Value, Outcome, readable, refused, placed, gridded, unknown, texts, dated, widthsOf, structured, structures, reading, planOf, valueBy, valueOf}
+use Rattle.items.specs.At.{found, foundAt}
 use Rattle.newer_camera.specs.OldReader.{textFor}
 use Rattle.newer_camera.proofs.Value.{found-there}
 

@@ -1,6 +1,5 @@
 -- What the definitions come to on small payloads, computed: kinds, signs, the order of refusals and their places. Assumes nothing.
 use Prim.Native.Nat.{ℕ, _<_}
-use Prim.Native.Char.{code}
 use Prim.Native.String.{String}
 use mathlib.Core.Path.{_≡_, refl}
 use mathlib.Core.List.{List, [], _∷_, _++_}
@@ -19,13 +18,14 @@ use Rattle.texts.specs.Texts.{chunks, areWellFormed}
 use Rattle.dates.specs.Date.{dateOf}
 use Rattle.custom_type.specs.Expansion.{expanded, goneThrough, step, copied}
 use Rattle.custom_type.specs.Number.{readable, withoutPlus}
-use Rattle.values.specs.declared.Kind.the-variants as kind
-use Rattle.values.specs.declared.Read.{Read}
-use Rattle.values.specs.declared.Read.the-variants as read
-use Rattle.values.specs.declared.Shaped.{Shaped}
-use Rattle.values.specs.declared.Shaped.the-variants as shaped
-use Rattle.values.specs.Value.{kindOf, isQuaternions, reading, widthsOf, letterPlan, planOf}
-use Rattle.values.specs.At.{typeAt, foundAt, elementOfFound, shapeOfFound}
+use Rattle.value.specs.declared.Kind.the-variants as kind
+use Rattle.value.specs.declared.Read.{Read}
+use Rattle.value.specs.declared.Read.the-variants as read
+use Rattle.value.specs.declared.Shaped.{Shaped}
+use Rattle.value.specs.declared.Shaped.the-variants as shaped
+use Rattle.value.specs.Value.{kindOf, isQuaternions, reading, widthsOf, letterPlan, planOf}
+use Rattle.items.specs.At.{typeAt, foundAt}
+use Rattle.values.specs.At.{elementOfFound, shapeOfFound}
 
 -- an item: key, type, size, repeat below 256, payload
 abbrev itemOf : String → String → ℕ → ℕ → List ℕ → List ℕ
@@ -40,7 +40,7 @@ shapeAt s at type = shapeOfFound (foundAt s at type) at
 abbrev elementAtPlace : List ℕ → ℕ → ℕ → ℕ → ℕ → Read
 elementAtPlace s at type row column = elementOfFound (foundAt s at type) at row column
 
-abbrev isShape : Rattle.values.specs.declared.Kind.Kind → ℕ → ℕ → Shaped
+abbrev isShape : Rattle.value.specs.declared.Kind.Kind → ℕ → ℕ → Shaped
 isShape k rows columns = shaped.Is (record { kind = k; rows = rows; columns = columns })
 
 -- ---- kinds

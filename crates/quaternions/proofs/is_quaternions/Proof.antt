@@ -1,6 +1,6 @@
 -- `is_quaternions` meets its contract: each return by the tests that led there. Assumes nothing.
 use borrow.Author.Tests.{eq-eqb, ne-eqb}
-use Rattle.values.specs.Value.{isQuaternions}
+use Rattle.value.specs.Value.{isQuaternions}
 use Rattle.quaternions.proofs.is_quaternions.Statement.{statement}
 use Rattle.quaternions.proofs.is_quaternions.Tie as tie
 

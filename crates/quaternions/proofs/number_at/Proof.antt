@@ -2,7 +2,7 @@
 use mathlib.Core.Path.{sym, ap, _∙_}
 use mir.Syntax.{w16}
 use mir.ValLaws.{toZ-ofZ}
-use Rattle.values.specs.declared.Read.the-variants as read
+use Rattle.value.specs.declared.Read.the-variants as read
 use Rattle.quaternions.specs.declared.Number.the-variants as number
 use Rattle.quaternions.proofs.Laws.{number-by, has-16}
 use borrow.Author.Needs.{needs}

@@ -1,0 +1,59 @@
+-- The item at a place, with its payload and the TYPE text that it asks for: document 01, Refusal numbers, in the order 1, 12, 2.
+-- Assumes nothing: these are definitions.
+use Prim.Native.Nat.{ℕ}
+use Prim.Native.Char.{code}
+use mathlib.Core.Bool.{cond, _&&_}
+use mathlib.Core.List.{List, [], _∷_}
+use lib.Dec.{eqb, ltb}
+use lib.ListN.{length, drop}
+use Rattle.klv.specs.declared.KLV.{KLV}
+use Rattle.klv.specs.Item.{headerOf, First, few, past, item, firstItem}
+use Rattle.klv.specs.OneText.{typeText}
+use Rattle.texts.specs.Kept.{kept}
+
+-- ---- the TYPE text that a place names
+
+-- a text, or no whole one-text TYPE with payload
+pub data Named : Type 0 where
+  named : List ℕ → Named
+  bad : Named
+
+abbrev pub typeOf : First → Named
+typeOf few = bad
+typeOf past = bad
+typeOf (item h payload rest) = cond (typeText h && ltb 0 (length payload)) (named (kept payload)) bad
+
+-- 4,294,967,295 names none
+unfoldable pub typeAt : List ℕ → ℕ → Named
+typeAt s at = cond (eqb at 4294967295) (named []) (typeOf (firstItem (drop at s)))
+
+-- only a structure asks for it
+abbrev pub typeFor : ℕ → List ℕ → ℕ → Named
+typeFor letter s at = cond (eqb letter (code "?")) (typeAt s at) (named [])
+
+-- ---- the item at a place
+
+-- a header with its payload and its TYPE text, or a refusal's number and place
+pub data Found : Type 0 where
+  found : KLV → List ℕ → List ℕ → Found
+  stopped : ℕ → ℕ → Found
+
+-- 2: the item's payload runs past the end of what was lent
+abbrev pub overIf : Named → ℕ → Found
+overIf (named type) at = stopped 2 at
+overIf bad at = stopped 12 at
+
+abbrev pub wholeIf : Named → KLV → List ℕ → ℕ → Found
+wholeIf (named type) h payload at = found h payload type
+wholeIf bad h payload at = stopped 12 at
+
+-- 12: no 8 header bytes or length 0 at the place asked, or no such TYPE at the place named
+abbrev pub foundBy : First → List ℕ → ℕ → ℕ → Found
+foundBy few s at typePlace = stopped 12 at
+foundBy past s at typePlace = overIf (typeFor (headerOf (drop at s) .«data_type») s typePlace) at
+foundBy (item h [] rest) s at typePlace = stopped 12 at
+foundBy (item h (b ∷ payload) rest) s at typePlace = wholeIf (typeFor (h .«data_type») s typePlace) h (b ∷ payload) at
+
+-- 1: the payload is over the limit, at place 0
+unfoldable pub foundAt : List ℕ → ℕ → ℕ → Found
+foundAt s at typePlace = cond (ltb 1048576 (length s)) (stopped 1 0) (foundBy (firstItem (drop at s)) s at typePlace)

@@ -1,0 +1,133 @@
+-- The answers of rows of letters, and of a TYPE text written out. Assumes nothing.
+use Prim.Native.Nat.{ℕ, _+_, _*_, _<_, _≤_, _^_}
+use mathlib.Core.Path.{_≡_, refl, sym, ap, _∙_}
+use mathlib.Core.Bool.{Bool, true, false, cond}
+use mathlib.Core.List.{List, [], _∷_, _++_}
+use native.Mathlib.Nat.{mul-le-mul}
+use native.Mathlib.Omega.{arith}
+use borrow.Author.Tests.{le-leb, lt-leb, leb-true, lt-ltb, le-ltb}
+use lib.Dec.{leb}
+use lib.ListN.{length, take, drop, length-append}
+use lib.Seq.{take-append-seam}
+use Rattle.klv.specs.declared.KLV.{KLV}
+use Rattle.elements.specs.declared.Element.{Element}
+use Rattle.elements.specs.Types.{widthOf}
+use Rattle.elements.specs.Element.{elementAt}
+use Rattle.custom_type.specs.declared.Expanded.{Expanded}
+use Rattle.custom_type.specs.declared.Expanded.the-variants.{Characters, TooLong}
+use Rattle.custom_type.specs.Expansion.{expanded}
+use Rattle.custom_type.specs.Resolved.{told, fits, Resolved}
+use Rattle.value.specs.declared.Kind.the-variants as kind
+use Rattle.value.specs.declared.Read.the-variants as read
+use Rattle.value.specs.declared.Shaped.the-variants as shaped
+use Rattle.structures.specs.declared.Row.{Row}
+use Rattle.structures.specs.declared.Letter.{Letter}
+use Rattle.value.specs.Value.{refused, reading, widthsOf, structured, structures}
+use Rattle.value.specs.Answer.{elementIn, shapeIn}
+use Rattle.structures.specs.Row.{RowIs, LetterIs}
+
+-- rows of 2,048 bytes at most are counted in 64 bits
+pub counted : (rows row width more : ℕ) → rows ≤ 65536 → row ≤ rows → width ≤ 2048 → more ≤ 2048 → row * width + more < 2 ^ 64
+counted rows row width more r k w m =
+    let few : row ≤ 65536 = omega arith in
+    let most : row * width ≤ 65536 * 2048 = mul-le-mul few w in
+    omega arith
+
+module _ (h : KLV) (payload letters : List ℕ) (place rows : ℕ) (all : Row) (is-rows : rows ≡ h .repeat) (is-row : RowIs letters all) where
+  abbrev wanted : ℕ
+  wanted = h .repeat * widthsOf (reading letters)
+
+  same : rows * all .width ≡ wanted
+  same = λ i. is-rows i * is-row .width i
+
+  module _ (short : length payload < rows * all .width) where
+    too-few : leb wanted (length payload) ≡ false
+    too-few = lt-leb wanted (length payload) (omega (arith, same))
+
+    pub element-short : (row column : ℕ) → read.Refused 6 place ≡ elementIn place (structured (reading letters) h payload) row column
+    element-short row column = simp too-few
+
+    pub shape-short : shaped.Refused 6 place ≡ shapeIn place (structured (reading letters) h payload)
+    shape-short = simp too-few
+
+  module _ (whole : rows * all .width ≤ length payload) where
+    enough : leb wanted (length payload) ≡ true
+    enough = le-leb wanted (length payload) (omega (arith, same))
+
+    pub shape-whole : shaped.Is (record { kind = kind.Structures; rows = rows; columns = all .columns }) ≡ shapeIn place (structured (reading letters) h payload)
+    shape-whole = (λ i. shaped.Is (record { kind = kind.Structures; rows = is-rows i; columns = is-row .columns i })) ∙ sym (simp enough)
+
+    pub no-row : (row column : ℕ) → rows ≤ row → read.Refused 13 place ≡ elementIn place (structured (reading letters) h payload) row column
+    no-row row column k = simp (enough, le-ltb row (h .repeat) (omega arith))
+
+    pub no-column : (row column : ℕ) → row < rows → all .columns ≤ column → read.Refused 13 place ≡ elementIn place (structured (reading letters) h payload) row column
+    no-column row column k l =
+        simp (enough, lt-ltb row (h .repeat) (omega arith), le-ltb column (length (reading letters)) (omega (arith, is-row .columns)))
+
+    pub in-row : (row column : ℕ) (its : Letter) (x : Element) → row < rows → column < all .columns → LetterIs letters column its
+        → x ≡ elementAt payload (row * all .width + its .before) (its .letter)
+        → read.Is x ≡ elementIn place (structured (reading letters) h payload) row column
+    in-row row column its x k l is e =
+        ap read.Is (e ∙ (λ i. elementAt payload (row * is-row .width i + is .before i) (is .letter i)))
+        ∙ sym (simp (enough, lt-ltb row (h .repeat) (omega arith), lt-ltb column (length (reading letters)) (omega (arith, is-row .columns))))
+
+-- ---- a TYPE text written out
+
+module _ (h : KLV) (payload : List ℕ) where
+  -- none, or an empty one
+  pub no-type : (type : List ℕ) → length type ≡ 0 → structures type h payload ≡ structures [] h payload
+  no-type [] e = refl
+  no-type (c ∷ type) e = absurd (omega arith)
+
+  pub no-elements : (place row column : ℕ) → elementIn place (structures [] h payload) row column ≡ read.Refused 13 place
+  unfolding widthOf
+  no-elements place row column = simp (le-leb 0 (length payload) (omega arith), le-ltb row 0 (omega arith))
+
+  pub no-shape : (place : ℕ) → shapeIn place (structures [] h payload) ≡ shaped.Is (record { kind = kind.Unknown; rows = 0; columns = 0 })
+  unfolding widthOf
+  no-shape place = simp (le-leb 0 (length payload) (omega arith))
+
+  pub with-type : (type : List ℕ) → (length type ≡ 0 → ⊥)
+      → structures type h payload ≡ cond (fits (expanded type)) (structured (reading (expanded type)) h payload) (refused 8)
+  with-type [] n = absurd (n refl)
+  with-type (c ∷ type) n = refl
+
+-- what the characters that were counted say
+pub record Written (type b : List ℕ) (n : ℕ) : Type 0 where
+  pub few : n ≤ 256
+  pub there : n ≤ length b
+  pub fitting : fits (expanded type) ≡ true
+  pub letters : take n b ≡ expanded type
+
+pub written : (type a b : List ℕ) (n : ℕ) (r : Expanded) → Resolved type a b r → r ≡ Characters n → Written type b n
+written type a b n r m e = go (fits (expanded type)) refl
+  where
+    go : (t : Bool) → fits (expanded type) ≡ t → Written type b n
+    go false f =
+        let w : TooLong ≡ told (expanded type) = sym (simp f) in
+        let o : Characters n ≡ TooLong = sym e ∙ m .is ∙ sym w in
+        let z : _≡_ {A = ℕ} 0 1 = cc in
+        absurd (omega arith)
+    go true f =
+        let w : Characters (length (expanded type)) ≡ told (expanded type) = sym (simp f) in
+        let o : Characters n ≡ Characters (length (expanded type)) = sym e ∙ m .is ∙ sym w in
+        let k : n ≡ length (expanded type) = cc in
+        let l : length (expanded type) ≤ 256 = leb-true (length (expanded type)) 256 f in
+        let out : b ≡ expanded type ++ drop (length (expanded type)) a = m .out ∙ simp f in
+        record {
+          few = omega arith;
+          there = rw out (simp length-append (omega arith));
+          fitting = f;
+          letters = (λ i. take (k i) (out i)) ∙ take-append-seam (expanded type) (drop (length (expanded type)) a);
+        }
+
+pub too-long : (type a b : List ℕ) (r : Expanded) → Resolved type a b r → r ≡ TooLong → fits (expanded type) ≡ false
+too-long type a b r m e = go (fits (expanded type)) refl
+  where
+    go : (t : Bool) → fits (expanded type) ≡ t → t ≡ false
+    go false f = refl
+    go true f =
+        let w : Characters (length (expanded type)) ≡ told (expanded type) = sym (simp f) in
+        let o : TooLong ≡ Characters (length (expanded type)) = sym e ∙ m .is ∙ sym w in
+        let z : _≡_ {A = ℕ} 0 1 = cc in
+        absurd (omega arith)

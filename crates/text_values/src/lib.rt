@@ -1,0 +1,121 @@
+// Values that are texts: several UTF-8 texts, and a date.
+use dates::Date;
+use elements::Element;
+use klv::KLV;
+use value::Columns;
+use value::Kind;
+use value::Read;
+use value::Shape;
+use value::Shaped;
+ghost use mathlib.Core.Path.{_≡_};
+ghost use Prim.Native.Nat.{_+_, _*_, _<_};
+ghost use lib.ListN.{length};
+ghost use Rattle.dates.specs.Date.{dateOf};
+ghost use Rattle.value.specs.Value.{textOf, texts, dated};
+ghost use Rattle.value.specs.Answer.{elementIn, shapeIn, columnsIn};
+
+fn wide(size: u8) -> usize
+    ensures { λ r. ⌜ (r ≡ size) × (r < 256) ⌝ }
+{
+    size as usize
+}
+
+fn wider(repeat: u16) -> usize
+    ensures { λ r. ⌜ (r ≡ repeat) × (r < 65536) ⌝ }
+{
+    repeat as usize
+}
+
+// The kept bytes of the text of a row.
+fn kept(klv: KLV, payload: &[u8], row: usize) -> usize
+    requires { ⌜ row < 65536 ⌝ }
+    ensures { λ r. ⌜ r ≡ length (textOf klv (now (payload .entry)) row) ⌝ }
+{
+    let size = wide(klv.size);
+    let start = row * size;
+    if payload.len() < start {
+        return 0;
+    }
+    let rest = &payload[start..];
+    if rest.len() < size {
+        return texts::utf8_len(rest);
+    }
+    texts::utf8_len(&rest[..size])
+}
+
+// An element of several texts: a byte of the text of a row.
+pub fn element(place: usize, klv: KLV, payload: &[u8], row: usize, column: usize) -> Read
+    ensures { λ r. ⌜ r ≡ elementIn place (texts klv (now (payload .entry))) row column ⌝ }
+{
+    if !texts::are_utf8(payload, wide(klv.size)) {
+        return Read::Refused { number: 7, place };
+    }
+    if wider(klv.repeat) <= row {
+        return Read::Refused { number: 13, place };
+    }
+    if kept(klv, payload, row) <= column {
+        return Read::Refused { number: 13, place };
+    }
+    Read::Is(elements::element_at(payload, row * wide(klv.size) + column, b'B'))
+}
+
+// The columns of a row of several texts: the bytes that its text keeps.
+pub fn columns(place: usize, klv: KLV, payload: &[u8], row: usize) -> Columns
+    ensures { λ r. ⌜ r ≡ columnsIn place (texts klv (now (payload .entry))) row ⌝ }
+{
+    if !texts::are_utf8(payload, wide(klv.size)) {
+        return Columns::Refused { number: 7, place };
+    }
+    if wider(klv.repeat) <= row {
+        return Columns::Refused { number: 13, place };
+    }
+    Columns::Are(kept(klv, payload, row))
+}
+
+// The shape of several texts, with the columns of the first.
+pub fn shape(place: usize, klv: KLV, payload: &[u8]) -> Shaped
+    ensures { λ r. ⌜ r ≡ shapeIn place (texts klv (now (payload .entry))) ⌝ }
+{
+    if !texts::are_utf8(payload, wide(klv.size)) {
+        return Shaped::Refused { number: 7, place };
+    }
+    Shaped::Is(Shape {
+        kind: Kind::Texts,
+        rows: wider(klv.repeat),
+        columns: kept(klv, payload, 0),
+    })
+}
+
+// The element of a date, which is one row of one column.
+pub fn date_element(place: usize, payload: &[u8], row: usize, column: usize) -> Read
+    ensures { λ r. ⌜ r ≡ elementIn place (dated (dateOf (now (payload .entry)))) row column ⌝ }
+{
+    match dates::parse_utcdate(payload) {
+        Date::TooFew => Read::Refused { number: 6, place },
+        Date::Unreadable => Read::Refused { number: 7, place },
+        Date::Milliseconds(n) => {
+            if 0 < row {
+                return Read::Refused { number: 13, place };
+            }
+            if 0 < column {
+                return Read::Refused { number: 13, place };
+            }
+            Read::Is(Element::Unsigned(n))
+        }
+    }
+}
+
+// The shape of a date.
+pub fn date_shape(place: usize, payload: &[u8]) -> Shaped
+    ensures { λ r. ⌜ r ≡ shapeIn place (dated (dateOf (now (payload .entry)))) ⌝ }
+{
+    match dates::parse_utcdate(payload) {
+        Date::TooFew => Shaped::Refused { number: 6, place },
+        Date::Unreadable => Shaped::Refused { number: 7, place },
+        Date::Milliseconds(_) => Shaped::Is(Shape {
+            kind: Kind::DateTime,
+            rows: 1,
+            columns: 1,
+        }),
+    }
+}
