@@ -301,6 +301,11 @@ gpmf_shape_answer gpmf_shape_at(const uint8_t *s, size_t s_len, size_t at, size_
 /* The columns of a row: of a text, its bytes. */
 gpmf_whole_answer gpmf_columns_at(const uint8_t *s, size_t s_len, size_t at, size_t type_at, size_t row);
 
+/* The same of a header, the payload behind it and a TYPE text without its trailing zeros (of length 0 for none); `place` is what a refusal tells as its place. */
+gpmf_element_answer gpmf_element_of(size_t place, gpmf_klv klv, const uint8_t *payload, size_t payload_len, const uint8_t *type_text, size_t type_text_len, size_t row, size_t column);
+gpmf_shape_answer gpmf_shape_of(size_t place, gpmf_klv klv, const uint8_t *payload, size_t payload_len, const uint8_t *type_text, size_t type_text_len);
+gpmf_whole_answer gpmf_columns_of(size_t place, gpmf_klv klv, const uint8_t *payload, size_t payload_len, const uint8_t *type_text, size_t type_text_len, size_t row);
+
 /* ---- items */
 
 /* A cursor at a place. */

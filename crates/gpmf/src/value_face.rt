@@ -1,9 +1,12 @@
-// Values of the item at a place.
+// Values: of the item at a place, and of a header, a payload and a TYPE text.
 use answers::ElementAnswer;
 use answers::ShapeAnswer;
 use answers::WholeAnswer;
+use klv::KLV;
 ghost use mathlib.Core.Path.{_≡_};
 ghost use Rattle.items.specs.At.{foundAt};
+ghost use Rattle.value.specs.Value.{valueOf};
+ghost use Rattle.value.specs.Answer.{elementIn, shapeIn, columnsIn};
 ghost use Rattle.values.specs.At.{elementOfFound, shapeOfFound, columnsOfFound};
 ghost use Rattle.answers.specs.Answers.{ofRead, ofShaped, ofColumns};
 
@@ -35,4 +38,46 @@ pub extern "C" fn gpmf_columns_at(s: &[u8], at: usize, type_at: usize, row: usiz
     ensures { λ r. ⌜ r ≡ ofColumns (columnsOfFound (foundAt (now (s .entry)) at «type_at») at row) ⌝ }
 {
     answers::of_columns(values::columns_at(s, at, type_at, row))
+}
+
+// The element of the value of a header, a payload and a TYPE text.
+#[no_mangle]
+pub extern "C" fn gpmf_element_of(
+    place: usize,
+    klv: KLV,
+    payload: &[u8],
+    type_text: &[u8],
+    row: usize,
+    column: usize,
+) -> ElementAnswer
+    ensures { λ r. ⌜ r ≡ ofRead (elementIn place (valueOf klv (now (payload .entry)) (now («type_text» .entry))) row column) ⌝ }
+{
+    answers::of_read(payload_values::element_of(place, klv, payload, type_text, row, column))
+}
+
+// The shape of the same value.
+#[no_mangle]
+pub extern "C" fn gpmf_shape_of(
+    place: usize,
+    klv: KLV,
+    payload: &[u8],
+    type_text: &[u8],
+) -> ShapeAnswer
+    ensures { λ r. ⌜ r ≡ ofShaped (shapeIn place (valueOf klv (now (payload .entry)) (now («type_text» .entry)))) ⌝ }
+{
+    answers::of_shaped(payload_values::shape_of(place, klv, payload, type_text))
+}
+
+// The columns of a row of the same value.
+#[no_mangle]
+pub extern "C" fn gpmf_columns_of(
+    place: usize,
+    klv: KLV,
+    payload: &[u8],
+    type_text: &[u8],
+    row: usize,
+) -> WholeAnswer
+    ensures { λ r. ⌜ r ≡ ofColumns (columnsIn place (valueOf klv (now (payload .entry)) (now («type_text» .entry))) row) ⌝ }
+{
+    answers::of_columns(payload_values::columns_of(place, klv, payload, type_text, row))
 }
