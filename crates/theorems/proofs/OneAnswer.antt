@@ -161,6 +161,8 @@ use Rattle.payload_values.proofs.columns_of.Kinds as columns-of-kinds
 use Rattle.payload_values.proofs.columns_of.Reads as columns-of-reads
 use Rattle.items.proofs.item_at.Kinds as item-at-kinds
 use Rattle.items.proofs.item_at.Reads as item-at-reads
+use Rattle.values.proofs.klv_at.Kinds as klv-at-kinds
+use Rattle.values.proofs.klv_at.Reads as klv-at-reads
 use Rattle.values.proofs.element.Kinds as element-kinds
 use Rattle.values.proofs.element.Reads as element-reads
 use Rattle.values.proofs.shape_at.Kinds as shape-at-kinds
@@ -333,6 +335,9 @@ columns-of κs a x y s t p q = p ∙ sym q
 
 pub item-at : OneResult 1 item-at-kinds.ps item-at-kinds.r item-at-reads.Learnt
 item-at κs a x y s t p q = p .is ∙ sym (q .is)
+
+pub klv-at : OneResult 1 klv-at-kinds.ps klv-at-kinds.r klv-at-reads.Learnt
+klv-at κs a x y s t p q = p ∙ sym q
 
 pub element : OneResult 1 element-kinds.ps element-kinds.r element-reads.Learnt
 element κs a x y s t p q = p ∙ sym q

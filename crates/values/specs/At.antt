@@ -10,6 +10,12 @@ use Rattle.value.specs.declared.Columns.{Columns}
 use Rattle.value.specs.declared.Columns.the-variants as columns
 use Rattle.value.specs.Value.{valueOf}
 use Rattle.value.specs.Answer.{elementIn, shapeIn, columnsIn}
+use Rattle.values.specs.declared.Headed.{Headed}
+use Rattle.values.specs.declared.Headed.the-variants as headed
+
+abbrev pub klvOfFound : Found → Headed
+klvOfFound (stopped number place) = headed.Refused number place
+klvOfFound (found h payload type) = headed.Is h
 
 abbrev pub elementOfFound : Found → ℕ → ℕ → ℕ → Read
 elementOfFound (stopped number place) at row column = read.Refused number place

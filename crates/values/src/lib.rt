@@ -1,11 +1,34 @@
 // Values: the shape of the value of an item at a place, and its elements by row and column.
 use items::Found;
+use klv::KLV;
 use value::Columns;
 use value::Read;
 use value::Shaped;
 ghost use mathlib.Core.Path.{_≡_};
 ghost use Rattle.items.specs.At.{foundAt};
-ghost use Rattle.values.specs.At.{elementOfFound, shapeOfFound, columnsOfFound};
+ghost use Rattle.values.specs.At.{klvOfFound, elementOfFound, shapeOfFound, columnsOfFound};
+
+// A header, by its key, type, size and repeat.
+pub enum Headed {
+    Is(KLV),
+    Refused { number: u32, place: usize },
+}
+
+// The header of the item at a place, whose TYPE stands at another.
+pub fn klv_at(s: &[u8], at: usize, type_at: usize) -> Headed
+    ensures { λ r. ⌜ r ≡ klvOfFound (foundAt (now (s .entry)) at «type_at») ⌝ }
+{
+    match items::item_at(s, at, type_at) {
+        Found::Refused { number, place } => Headed::Refused { number, place },
+        Found::Item {
+            klv,
+            start: _,
+            end: _,
+            type_start: _,
+            type_end: _,
+        } => Headed::Is(klv),
+    }
+}
 
 // The element at a row and a column of the item at a place, whose TYPE stands at another.
 pub fn element(s: &[u8], at: usize, type_at: usize, row: usize, column: usize) -> Read
