@@ -2,3 +2,4 @@ pub mod OneAnswer
 pub mod RowValue
 pub mod MarkedCases
 pub mod NewerCameraCall
+pub mod TextKinds

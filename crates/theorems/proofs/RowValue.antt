@@ -11,6 +11,7 @@ use native.Mathlib.Decide.{decLe}
 use native.Mathlib.Omega.{arith}
 use lib.Dec.{eqb, leb, ltb}
 use lib.ListN.{length, drop}
+use denote.Ref.{now}
 use Rattle.klv.specs.declared.KLV.{KLV}
 use Rattle.elements.specs.Types.{widthOf}
 use Rattle.texts.specs.Texts.{areWellFormed}
@@ -27,6 +28,9 @@ use Rattle.value.specs.declared.Plan.the-variants as plan
 use Rattle.value.specs.declared.Grid.{Grid}
 use Rattle.value.specs.Value.{Value, Outcome, readable, refused, placed, gridded, unknown, texts, dated, widthsOf, structured, structures, reading, planOf, valueBy, valueOf}
 use Rattle.items.specs.At.{found, foundAt}
+use Rattle.view.specs.declared.View.{View}
+use Rattle.view.specs.Parts.{foundIn, bytesOfFound, cut}
+use Rattle.view.proofs.Found.{bytes-are}
 use Rattle.newer_camera.specs.OldReader.{textFor}
 use Rattle.newer_camera.proofs.Value.{found-there}
 
@@ -46,6 +50,15 @@ accepted-within forced s room rs headers e = go (decLe (length s) 1048576)
 pub row-value : (forced : Bool) (s : List ℕ) (room : ℕ) (rs : List Record) (headers : ℕ) → readingOf forced s room ≡ accepted rs headers → (r : Record) → List·Memᴰ r rs
     → foundAt s (r .place) (typePlace (r .type)) ≡ found (r .content .header) (r .content .payload) (textFor (r .content .header) (r .type))
 row-value forced s room rs headers e r m = found-there s (accepted-within forced s room rs headers e) r (read-stands forced s room rs headers e r m)
+
+-- A VIEW at a row's places shows the row's own item, and the bytes that it tells are the row's payload
+module _ (forced : Bool) (s : List ℕ) (room : ℕ) (rs : List Record) (headers : ℕ) (e : readingOf forced s room ≡ accepted rs headers) (r : Record) (m : List·Memᴰ r rs)
+    (v : View) (payload-is : now (v .payload) ≡ s) (at-is : v .at ≡ r .place) (type-is : v .«type_at» ≡ typePlace (r .type)) where
+  pub row-viewed : foundIn v ≡ found (r .content .header) (r .content .payload) (textFor (r .content .header) (r .type))
+  row-viewed = (λ i. foundAt (payload-is i) (at-is i) (type-is i)) ∙ row-value forced s room rs headers e r m
+
+  pub row-bytes : cut (bytesOfFound (foundIn v) (v .at)) (now (v .payload)) ≡ r .content .payload
+  row-bytes = bytes-are (now (v .payload)) (v .at) (v .«type_at») (r .content .header) (r .content .payload) (textFor (r .content .header) (r .type)) row-viewed
 
 -- ---- a value itself is refused with 6, 7 or 8 only
 
