@@ -1,0 +1,58 @@
+//! The proved reader of GPMF, the metadata of action cameras.
+//!
+//! Each call of libgpmf is a safe function here. Input that is not as it must be is refused with a number and a place: [`Refusal`]. What is not there is `None`.
+//!
+//! Which seconds of a take had a wet microphone:
+//!
+//! ```
+//! use gpmf::{Element, Group, Tag};
+//! let file = std::fs::read("../../samples/take.raw")?;
+//! let mut wet = Vec::new();
+//! for (second, packet) in gpmf::packets(&file).enumerate() {
+//!     let reading = packet.reading?;
+//!     let Some(mwet) = reading.item(Group::of(*b"MWET"), Tag::Data) else { continue };
+//!     for row in 0..mwet.shape()?.rows {
+//!         if mwet.element(row, 0)? != Element::Unsigned(0) {
+//!             wet.push(second + 1);
+//!             break;
+//!         }
+//!     }
+//! }
+//! assert_eq!(wet, [2, 3, 4]);
+//! # Ok::<(), Box<dyn std::error::Error>>(())
+//! ```
+//!
+//! A packet that is refused is not lost: [`Packet::front`] reads what stands before the place.
+#![warn(missing_docs)]
+
+mod axes;
+mod group;
+mod item;
+mod line;
+mod number;
+mod packets;
+mod print;
+mod reading;
+mod refusal;
+mod rows;
+mod sys;
+mod text;
+mod value;
+
+pub use axes::*;
+pub use group::*;
+pub use item::*;
+pub use line::*;
+pub use number::*;
+pub use packets::*;
+pub use print::*;
+pub use reading::*;
+pub use refusal::Refusal;
+pub use rows::*;
+pub use text::*;
+pub use value::*;
+
+/// The Rust in the README of the bindings is built too.
+#[cfg(doctest)]
+#[doc = include_str!("../../README.md")]
+struct Readme;

@@ -1,0 +1,119 @@
+//! Values: of the item whose header stands at a place, with its TYPE at another where it is a `?` item.
+use crate::number::Element;
+use crate::refusal::{is, Refusal};
+use crate::sys;
+
+/// What a value is called.
+///
+/// ```
+/// let shape = gpmf::shape_at(b"ABCDB\x03\x00\x02abcdef", 0, None)?;
+/// assert_eq!(shape.kind, gpmf::Kind::Vector);
+/// # Ok::<(), gpmf::Refusal>(())
+/// ```
+#[derive(Clone, Copy, Debug, PartialEq, Eq, Hash)]
+pub enum Kind {
+    /// One number.
+    Single,
+    /// A number a row.
+    List,
+    /// Three a row.
+    Vector,
+    /// Four a row.
+    TimedVector,
+    /// Any other count a row.
+    Nested,
+    /// One Latin-1 text: its bytes are the columns.
+    Text,
+    /// A UTF-8 text a row.
+    Texts,
+    /// Four 32-bit numbers.
+    Identifier,
+    /// Milliseconds since 1970.
+    DateTime,
+    /// w x y z a row, as they stand.
+    Quaternions,
+    /// A structure a row, by its TYPE.
+    Structures,
+    /// Of a type that is not read: no elements.
+    Unknown,
+}
+
+/// The kinds by number.
+const KINDS: [Kind; 12] = [
+    Kind::Single,
+    Kind::List,
+    Kind::Vector,
+    Kind::TimedVector,
+    Kind::Nested,
+    Kind::Text,
+    Kind::Texts,
+    Kind::Identifier,
+    Kind::DateTime,
+    Kind::Quaternions,
+    Kind::Structures,
+    Kind::Unknown,
+];
+
+/// The shape of a value.
+///
+/// ```
+/// let shape = gpmf::shape_at(b"MWETB\x03\x00\x02abcdef", 0, None)?;
+/// assert_eq!(shape, gpmf::Shape { kind: gpmf::Kind::Vector, rows: 2, columns: 3 });
+/// # Ok::<(), gpmf::Refusal>(())
+/// ```
+#[derive(Clone, Copy, Debug, PartialEq, Eq, Hash)]
+pub struct Shape {
+    /// What it is called.
+    pub kind: Kind,
+    /// How many rows it has.
+    pub rows: usize,
+    /// How many columns its first row has.
+    pub columns: usize,
+}
+
+fn type_at(place: Option<usize>) -> usize {
+    place.unwrap_or(sys::NO_TYPE as usize)
+}
+
+/// The element at a row and a column of the item at a place. Refused with 1, 2, 6, 7, 8, 12 or 13, at the place asked.
+///
+/// ```
+/// use gpmf::{element, Element, Refusal};
+/// let item = b"AALPb\x02\x00\x02\xdd\xe5\xda\xe8";
+/// assert_eq!(element(item, 0, None, 1, 0)?, Element::Signed(-38));
+/// assert_eq!(element(item, 0, None, 2, 0).unwrap_err().number, Refusal::OUTSIDE);
+///
+/// let structure = b"TYPEc\x01\x00\x02Lf\0\0FACE?\x08\x00\x01\0\0\0\x07\x3f\xc0\0\0";
+/// assert_eq!(element(structure, 12, Some(0), 0, 1)?, Element::Single(1.5));
+/// # Ok::<(), Refusal>(())
+/// ```
+pub fn element(bytes: &[u8], at: usize, type_place: Option<usize>, row: usize, column: usize) -> Result<Element, Refusal> {
+    let a = unsafe { sys::gpmf_element(bytes.as_ptr(), bytes.len(), at, type_at(type_place), row, column) };
+    is(a.kind, a.number, a.place, Element::from_sys(a.element))
+}
+
+/// What the value of the item at a place is called, its rows, and the columns of its first row. Refused as an element is, but for 13.
+///
+/// ```
+/// let name = b"STNMc\x01\x00\x05Faces";
+/// let shape = gpmf::shape_at(name, 0, None)?;
+/// assert_eq!((shape.kind, shape.rows, shape.columns), (gpmf::Kind::Text, 1, 5));
+/// assert_eq!(gpmf::shape_at(name, 6, None).unwrap_err().number, gpmf::Refusal::NO_ITEM);
+/// # Ok::<(), gpmf::Refusal>(())
+/// ```
+pub fn shape_at(bytes: &[u8], at: usize, type_place: Option<usize>) -> Result<Shape, Refusal> {
+    let a = unsafe { sys::gpmf_shape_at(bytes.as_ptr(), bytes.len(), at, type_at(type_place)) };
+    let kind = KINDS.get(a.value_kind as usize).copied().unwrap_or(Kind::Unknown);
+    is(a.kind, a.number, a.place, Shape { kind, rows: a.rows, columns: a.columns })
+}
+
+/// The columns of a row: of a text, its bytes.
+///
+/// ```
+/// let units = b"UNITc\x03\x00\x02degm\0\0";
+/// assert_eq!(gpmf::columns_at(units, 0, None, 1), Ok(1));
+/// ```
+pub fn columns_at(bytes: &[u8], at: usize, type_place: Option<usize>, row: usize) -> Result<usize, Refusal> {
+    let a = unsafe { sys::gpmf_columns_at(bytes.as_ptr(), bytes.len(), at, type_at(type_place), row) };
+    is(a.kind, a.number, a.place, a.value as usize)
+}
