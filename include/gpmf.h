@@ -442,8 +442,9 @@ gpmf_packet_metadata_answer gpmf_next_metadata(gpmf_packets packets, const uint8
 /* The same in a window of a file. GPMF_REFUSED with 1: a packet from packet.start on that is over the limit wherever it ends; go on with `rest`. */
 gpmf_packet_metadata_answer gpmf_next_metadata_in(gpmf_packets packets, const uint8_t *window, size_t window_len, bool more, bool forced, uint32_t *rows, size_t rows_len);
 
-/* ---- printing: text is laid into out[0 .. out_len) from a place on, and the answer is the place behind it; where it does not fit, nothing is laid and the answer is
- * GPMF_FULL, and from GPMF_FULL on nothing is laid either, so that calls can follow each other unlooked-at */
+/* ---- printing: text is laid into out[0 .. out_len) from a place on, and the answer is the place behind it; what does not fit is not laid and the answer is
+ * GPMF_FULL, and from GPMF_FULL on nothing is laid either, so that calls can follow each other unlooked-at. A call that lays several parts, as lines, leaves
+ * those that were laid before the first that does not fit */
 
 /* The listing of a payload: its first line, and a line a row; the rows go into `rows` as in gpmf_parse_metadata. */
 size_t gpmf_list(const uint8_t *payload, size_t payload_len, uint32_t *rows, size_t rows_len, uint8_t *out, size_t out_len, size_t at);

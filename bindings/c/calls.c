@@ -742,7 +742,9 @@ static void listings(void) {
     CHECK(kept(numbers, 0, LENT) && gpmf_list(NONE, NULL, 0, NULL, 0, 0) == GPMF_FULL);
     CHECK(gpmf_list(packet.bytes, packet.size, numbers, LENT, out, 4096, 0) == listing.size && memcmp(out, listing.bytes, listing.size) == 0);
     CHECK(memcmp(numbers, rows, LENT * sizeof *rows) == 0 && kept_bytes(out, listing.size, 4096));
+    memset(out, 0xA5, 4096);
     CHECK(gpmf_list(packet.bytes, packet.size, numbers, LENT, out, listing.size - 1, 0) == GPMF_FULL);
+    CHECK(lies(out, 0, "rows 58 headers 125\n0 - DVID") && lies(out, listing.size - 51, "1144 GPS5 SCAL 108 4 5 1\n") && kept_bytes(out, listing.size - 26, 4096));
 }
 
 static void lines(void) {
@@ -755,7 +757,8 @@ static void lines(void) {
     CHECK(gpmf_put_rows(out, 64, 1, rows, LENT, 2) == 38 && lies(out, 1, "0 - DVID 76 4 1 0\n12 - DVNM 99 1 6 0\n\xa5"));
     CHECK(gpmf_put_rows(out, 64, 40, NONE, 5) == 40 && gpmf_put_rows(NONE, 0, NONE, 0) == 0 && gpmf_put_rows(NONE, 0, rows, LENT, 1) == GPMF_FULL);
     CHECK(gpmf_put_totals(out, 64, 0, 5, 2, 3) == 27 && lies(out, 0, "packets 5 read 2 refused 3\n"));
-    CHECK(gpmf_put_totals(NONE, 0, 5, 2, 3) == GPMF_FULL);
+    memset(out, 0xA5, 64);
+    CHECK(gpmf_put_totals(out, 10, 0, 5, 2, 3) == GPMF_FULL && lies(out, 0, "packets 5\xa5") && gpmf_put_totals(NONE, 0, 5, 2, 3) == GPMF_FULL);
 }
 
 /* A take as the program prints it, beside what is stored. */
