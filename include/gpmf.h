@@ -247,6 +247,15 @@ typedef struct gpmf_quaternion_answer {
     gpmf_quaternion quaternion;
 } gpmf_quaternion_answer;
 
+/* A part of what was lent: where it starts, and how many bytes it has. */
+typedef struct gpmf_part_answer {
+    uint32_t kind;
+    uint32_t number;
+    size_t place;
+    size_t start;
+    size_t length;
+} gpmf_part_answer;
+
 /* A packet, and the cursor to go on with. */
 typedef struct gpmf_packet_answer {
     uint32_t kind;
@@ -301,7 +310,16 @@ gpmf_shape_answer gpmf_shape_at(const uint8_t *s, size_t s_len, size_t at, size_
 /* The columns of a row: of a text, its bytes. */
 gpmf_whole_answer gpmf_columns_at(const uint8_t *s, size_t s_len, size_t at, size_t type_at, size_t row);
 
-/* The same of a header, the payload behind it and a TYPE text without its trailing zeros (of length 0 for none); `place` is what a refusal tells as its place. */
+/* The header of the item. Refused with 1, 2 or 12 as its value is. */
+gpmf_item_answer gpmf_klv_at(const uint8_t *s, size_t s_len, size_t at, size_t type_at);
+
+/* Which part of s the item's own payload is: s + start, `length` bytes. */
+gpmf_part_answer gpmf_bytes_at(const uint8_t *s, size_t s_len, size_t at, size_t type_at);
+
+/* Which part of s the text of a row is, without the zeros behind it. Refused as gpmf_columns_at; with 13 too where the value is no text. */
+gpmf_part_answer gpmf_text_at(const uint8_t *s, size_t s_len, size_t at, size_t type_at, size_t row);
+
+/* The element, the shape and the columns of a header, the payload behind it and a TYPE text without its trailing zeros (of length 0 for none); `place` is what a refusal tells as its place. */
 gpmf_element_answer gpmf_element_of(size_t place, gpmf_klv klv, const uint8_t *payload, size_t payload_len, const uint8_t *type_text, size_t type_text_len, size_t row, size_t column);
 gpmf_shape_answer gpmf_shape_of(size_t place, gpmf_klv klv, const uint8_t *payload, size_t payload_len, const uint8_t *type_text, size_t type_text_len);
 gpmf_whole_answer gpmf_columns_of(size_t place, gpmf_klv klv, const uint8_t *payload, size_t payload_len, const uint8_t *type_text, size_t type_text_len, size_t row);

@@ -59,6 +59,10 @@ use Rattle.stamps.specs.declared.Stamp.{Stamp}
 use Rattle.stamps.specs.declared.Stamp.the-variants as stamp
 use Rattle.tagged.specs.declared.Tagged.{Tagged}
 use Rattle.tagged.specs.declared.Tagged.the-variants as tagged
+use Rattle.values.specs.declared.Headed.{Headed}
+use Rattle.values.specs.declared.Headed.the-variants as headed
+use Rattle.view.specs.declared.Part.{Part}
+use Rattle.view.specs.declared.Part.the-variants as part-of
 use Rattle.value.specs.declared.Kind.{Kind}
 use Rattle.value.specs.declared.Kind.the-variants as kind
 use Rattle.value.specs.declared.Shaped.{Shaped}
@@ -78,6 +82,7 @@ use Rattle.answers.specs.declared.MetadataAnswer.{MetadataAnswer}
 use Rattle.answers.specs.declared.AxesAnswer.{AxesAnswer}
 use Rattle.answers.specs.declared.OrientationsAnswer.{OrientationsAnswer}
 use Rattle.answers.specs.declared.QuaternionAnswer.{QuaternionAnswer}
+use Rattle.answers.specs.declared.PartAnswer.{PartAnswer}
 use Rattle.answers.specs.declared.PacketAnswer.{PacketAnswer}
 use Rattle.answers.specs.declared.PacketMetadataAnswer.{PacketMetadataAnswer}
 use Rattle.answers.specs.declared.Matrix.{Matrix}
@@ -156,6 +161,11 @@ abbrev pub ofLastItem : LastItem → ItemAnswer
 ofLastItem (last.Last place h) = item is 0 place h
 ofLastItem last.Nothing = item nothing 0 0 noKlv
 ofLastItem (last.Stopped number place) = item refused number place noKlv
+
+-- the same of an item that has a value
+abbrev pub ofHeaded : ℕ → Headed → ItemAnswer
+ofHeaded at (headed.Is h) = item is 0 at h
+ofHeaded at (headed.Refused number place) = item refused number place noKlv
 
 abbrev pub ofTagged : Tagged → ItemAnswer
 ofTagged (tagged.Is h place) = item is 0 place h
@@ -265,6 +275,15 @@ abbrev pub ofScaledRow : ScaledRow → QuaternionAnswer
 ofScaledRow (scaled.Is q) = quaternion is 0 0 q
 ofScaledRow scaled.Nothing = quaternion nothing 0 0 noQuaternion
 ofScaledRow (scaled.Refused number place) = quaternion refused number place noQuaternion
+
+-- ---- a part of what was lent
+
+abbrev pub part : ℕ → ℕ → ℕ → ℕ → ℕ → PartAnswer
+part kind number place start n = record { kind = kind; number = number; place = place; start = start; length = n }
+
+abbrev pub ofPart : Part → PartAnswer
+ofPart (part-of.At start n) = part is 0 0 start n
+ofPart (part-of.Refused number place) = part refused number place 0 0
 
 -- ---- packets of a raw file
 

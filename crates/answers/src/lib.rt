@@ -28,6 +28,8 @@ use value::Columns;
 use value::Kind;
 use value::Read;
 use value::Shaped;
+use values::Headed;
+use view::Part;
 ghost use mathlib.Core.Path.{_≡_};
 ghost use Rattle.answers.specs.Answers as tells;
 
@@ -226,6 +228,16 @@ pub fn of_tagged(x: Tagged) -> ItemAnswer
         Tagged::Is { klv, place } => item(IS, 0, place as usize, klv),
         Tagged::Nothing => item(NOTHING, 0, 0, NO_KLV),
         Tagged::Refused { number, place } => item(REFUSED, number, place, NO_KLV),
+    }
+}
+
+// The same of an item that has a value.
+pub fn of_headed(x: Headed, at: usize) -> ItemAnswer
+    ensures { λ r. ⌜ r ≡ tells.ofHeaded at x ⌝ }
+{
+    match x {
+        Headed::Is(klv) => item(IS, 0, at, klv),
+        Headed::Refused { number, place } => item(REFUSED, number, place, NO_KLV),
     }
 }
 
@@ -574,6 +586,37 @@ pub fn of_scaled_row(x: ScaledRow) -> QuaternionAnswer
         ScaledRow::Is(q) => quaternion(IS, 0, 0, q),
         ScaledRow::Nothing => quaternion(NOTHING, 0, 0, NO_QUATERNION),
         ScaledRow::Refused { number, place } => quaternion(REFUSED, number, place, NO_QUATERNION),
+    }
+}
+
+// A part of what was lent: where it starts, and how many bytes it has.
+#[repr(C)]
+pub struct PartAnswer {
+    pub kind: u32,
+    pub number: u32,
+    pub place: usize,
+    pub start: usize,
+    pub length: usize,
+}
+
+fn part(kind: u32, number: u32, place: usize, start: usize, length: usize) -> PartAnswer
+    ensures { λ r. ⌜ r ≡ tells.part kind number place start length ⌝ }
+{
+    PartAnswer {
+        kind,
+        number,
+        place,
+        start,
+        length,
+    }
+}
+
+pub fn of_part(x: Part) -> PartAnswer
+    ensures { λ r. ⌜ r ≡ tells.ofPart x ⌝ }
+{
+    match x {
+        Part::At { start, length } => part(IS, 0, 0, start, length),
+        Part::Refused { number, place } => part(REFUSED, number, place, 0, 0),
     }
 }
 

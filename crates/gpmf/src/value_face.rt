@@ -1,5 +1,7 @@
 // Values: of the item at a place, and of a header, a payload and a TYPE text.
 use answers::ElementAnswer;
+use answers::ItemAnswer;
+use answers::PartAnswer;
 use answers::ShapeAnswer;
 use answers::WholeAnswer;
 use klv::KLV;
@@ -7,8 +9,9 @@ ghost use mathlib.Core.Path.{_≡_};
 ghost use Rattle.items.specs.At.{foundAt};
 ghost use Rattle.value.specs.Value.{valueOf};
 ghost use Rattle.value.specs.Answer.{elementIn, shapeIn, columnsIn};
-ghost use Rattle.values.specs.At.{elementOfFound, shapeOfFound, columnsOfFound};
-ghost use Rattle.answers.specs.Answers.{ofRead, ofShaped, ofColumns};
+ghost use Rattle.values.specs.At.{klvOfFound, elementOfFound, shapeOfFound, columnsOfFound};
+ghost use Rattle.view.specs.Parts.{bytesOfFound, textOfFound};
+ghost use Rattle.answers.specs.Answers.{ofHeaded, ofRead, ofShaped, ofColumns, ofPart};
 
 // The element at a row and a column.
 #[no_mangle]
@@ -80,4 +83,28 @@ pub extern "C" fn gpmf_columns_of(
     ensures { λ r. ⌜ r ≡ ofColumns (columnsIn place (valueOf klv (now (payload .entry)) (now («type_text» .entry))) row) ⌝ }
 {
     answers::of_columns(payload_values::columns_of(place, klv, payload, type_text, row))
+}
+
+// The header of the item at a place.
+#[no_mangle]
+pub extern "C" fn gpmf_klv_at(s: &[u8], at: usize, type_at: usize) -> ItemAnswer
+    ensures { λ r. ⌜ r ≡ ofHeaded at (klvOfFound (foundAt (now (s .entry)) at «type_at»)) ⌝ }
+{
+    answers::of_headed(values::klv_at(s, at, type_at), at)
+}
+
+// Which part of the bytes the payload of the item at a place is.
+#[no_mangle]
+pub extern "C" fn gpmf_bytes_at(s: &[u8], at: usize, type_at: usize) -> PartAnswer
+    ensures { λ r. ⌜ r ≡ ofPart (bytesOfFound (foundAt (now (s .entry)) at «type_at») at) ⌝ }
+{
+    answers::of_part(view::bytes_at(s, at, type_at))
+}
+
+// Which part of the bytes the text of a row is.
+#[no_mangle]
+pub extern "C" fn gpmf_text_at(s: &[u8], at: usize, type_at: usize, row: usize) -> PartAnswer
+    ensures { λ r. ⌜ r ≡ ofPart (textOfFound (foundAt (now (s .entry)) at «type_at») at row) ⌝ }
+{
+    answers::of_part(view::text_at(s, at, type_at, row))
 }

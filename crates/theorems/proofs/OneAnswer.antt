@@ -59,6 +59,10 @@ use Rattle.answers.proofs.of_header.Kinds as of-header-kinds
 use Rattle.answers.proofs.of_header.Reads as of-header-reads
 use Rattle.answers.proofs.of_last_item.Kinds as of-last-item-kinds
 use Rattle.answers.proofs.of_last_item.Reads as of-last-item-reads
+use Rattle.answers.proofs.of_headed.Kinds as of-headed-kinds
+use Rattle.answers.proofs.of_headed.Reads as of-headed-reads
+use Rattle.answers.proofs.of_part.Kinds as of-part-kinds
+use Rattle.answers.proofs.of_part.Reads as of-part-reads
 use Rattle.answers.proofs.of_tagged.Kinds as of-tagged-kinds
 use Rattle.answers.proofs.of_tagged.Reads as of-tagged-reads
 use Rattle.answers.proofs.of_element.Kinds as of-element-kinds
@@ -537,6 +541,12 @@ of-header κs a x y s t p q = p ∙ sym q
 
 pub of-last-item : OneResult 0 of-last-item-kinds.ps of-last-item-kinds.r of-last-item-reads.Learnt
 of-last-item κs a x y s t p q = p ∙ sym q
+
+pub of-headed : OneResult 0 of-headed-kinds.ps of-headed-kinds.r of-headed-reads.Learnt
+of-headed κs a x y s t p q = p ∙ sym q
+
+pub of-part : OneResult 0 of-part-kinds.ps of-part-kinds.r of-part-reads.Learnt
+of-part κs a x y s t p q = p ∙ sym q
 
 pub of-tagged : OneResult 0 of-tagged-kinds.ps of-tagged-kinds.r of-tagged-reads.Learnt
 of-tagged κs a x y s t p q = p ∙ sym q
