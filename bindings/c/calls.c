@@ -96,6 +96,9 @@ HAS(gpmf_orientations_answer, orin, 16);
 HAS(gpmf_orientations_answer, orio, 19);
 ANSWER(gpmf_quaternion_answer, 48);
 HAS(gpmf_quaternion_answer, quaternion, 16);
+ANSWER(gpmf_part_answer, 32);
+HAS(gpmf_part_answer, start, 16);
+HAS(gpmf_part_answer, length, 24);
 ANSWER(gpmf_packet_answer, 40);
 HAS(gpmf_packet_answer, packet, 16);
 HAS(gpmf_packet_answer, rest, 32);
@@ -191,6 +194,13 @@ static bool shape_is(gpmf_shape_answer a, uint32_t value_kind, size_t rows, size
 }
 static bool shape_refused(gpmf_shape_answer a, uint32_t number, size_t place) {
     return a.kind == GPMF_REFUSED && a.number == number && a.place == place && a.value_kind == 0 && a.rows == 0 && a.columns == 0;
+}
+
+static bool part_is(gpmf_part_answer a, size_t start, size_t length) {
+    return a.kind == GPMF_IS && a.number == 0 && a.place == 0 && a.start == start && a.length == length;
+}
+static bool part_refused(gpmf_part_answer a, uint32_t number, size_t place) {
+    return a.kind == GPMF_REFUSED && a.number == number && a.place == place && a.start == 0 && a.length == 0;
 }
 
 static bool rows_are(gpmf_metadata_answer a, size_t rows, size_t headers) {
@@ -488,6 +498,44 @@ static void shapes(void) {
     CHECK(whole_is(gpmf_columns_at(packet.bytes, packet.size, 1120, GPMF_NO_TYPE, 3), 3));
     CHECK(whole_refused(gpmf_columns_at(packet.bytes, packet.size, 1120, GPMF_NO_TYPE, 5), GPMF_OUTSIDE, 1120));
     CHECK(whole_refused(gpmf_columns_at(NONE, 0, GPMF_NO_TYPE, 0), GPMF_NO_ITEM, 0));
+}
+
+/* The header, the bytes and the texts of an item, as a view of it has them. */
+static void parts(void) {
+    CHECK(item_is(gpmf_klv_at(packet.bytes, packet.size, 864, GPMF_NO_TYPE), 864, klv(MWET, 'B', 3, 4)));
+    CHECK(item_refused(gpmf_klv_at(packet.bytes, packet.size, 700, 0), GPMF_NO_ITEM, 700));
+    CHECK(item_refused(gpmf_klv_at(packet.bytes, 883, 864, GPMF_NO_TYPE), GPMF_PAST_END, 864));
+    CHECK(item_refused(gpmf_klv_at(NONE, 3, GPMF_NO_TYPE), GPMF_NO_ITEM, 3));
+
+    CHECK(part_is(gpmf_bytes_at(packet.bytes, packet.size, 864, GPMF_NO_TYPE), 872, 12));
+    CHECK(part_refused(gpmf_bytes_at(packet.bytes, 883, 864, GPMF_NO_TYPE), GPMF_PAST_END, 864));
+    CHECK(part_refused(gpmf_bytes_at(too_long(), GPMF_MOST_BYTES + 1, 8, GPMF_NO_TYPE), GPMF_TOO_LONG, 0));
+    CHECK(part_refused(gpmf_bytes_at(NONE, SIZE_MAX, GPMF_NO_TYPE), GPMF_NO_ITEM, SIZE_MAX));
+
+    CHECK(part_is(gpmf_text_at(packet.bytes, packet.size, 840, GPMF_NO_TYPE, 0), 848, 14));
+    CHECK(memcmp(packet.bytes + 848, "Microphone Wet", 14) == 0);
+    CHECK(part_is(gpmf_text_at(packet.bytes, packet.size, 1120, GPMF_NO_TYPE, 2), 1134, 1) && packet.bytes[1134] == 'm');
+    CHECK(part_is(gpmf_text_at(packet.bytes, packet.size, 1120, GPMF_NO_TYPE, 4), 1140, 3) && memcmp(packet.bytes + 1140, "m/s", 3) == 0);
+    CHECK(part_refused(gpmf_text_at(packet.bytes, packet.size, 1120, GPMF_NO_TYPE, 5), GPMF_OUTSIDE, 1120));
+    CHECK(part_refused(gpmf_text_at(packet.bytes, packet.size, 864, GPMF_NO_TYPE, 0), GPMF_OUTSIDE, 864));
+    CHECK(part_refused(gpmf_text_at(TEXT("NAMEc\x02\x00\x02" "ab\xff" "c"), 0, GPMF_NO_TYPE, 0), GPMF_UNREADABLE, 0));
+    CHECK(part_refused(gpmf_text_at(NONE, 0, GPMF_NO_TYPE, 0), GPMF_NO_ITEM, 0));
+}
+
+/* Values of a header, a payload and a TYPE text that a caller holds apart. */
+static void values_apart(void) {
+    const uint8_t *wet = packet.bytes + 872;
+    gpmf_klv header = klv(MWET, 'B', 3, 4), face = klv(FACE, '?', 8, 1);
+    CHECK(is_unsigned(read_as(gpmf_element_of(7, header, wet, 12, NONE, 2, 0)), 1));
+    CHECK(is_unsigned(read_as(gpmf_element_of(7, header, wet, 12, NONE, 0, 2)), 59));
+    CHECK(element_refused(gpmf_element_of(7, header, wet, 11, NONE, 0, 0), GPMF_TOO_FEW, 7));
+    CHECK(element_refused(gpmf_element_of(7, header, wet, 12, NONE, 4, 0), GPMF_OUTSIDE, 7));
+    CHECK(is_single(read_as(gpmf_element_of(0, face, TEXT("\x00\x00\x00\x07\x3f\xc0\x00\x00"), TEXT("Lf"), 0, 1)), 1.5f));
+    CHECK(shape_is(gpmf_shape_of(7, header, wet, 12, NONE), GPMF_VALUE_VECTOR, 4, 3));
+    CHECK(shape_is(gpmf_shape_of(7, face, NONE, NONE), GPMF_VALUE_UNKNOWN, 0, 0));
+    CHECK(shape_refused(gpmf_shape_of(7, header, NONE, NONE), GPMF_TOO_FEW, 7));
+    CHECK(whole_is(gpmf_columns_of(7, klv(SCAL, 'c', 3, 2), TEXT("degm\x00\x00"), NONE, 1), 1));
+    CHECK(whole_refused(gpmf_columns_of(7, header, wet, 12, NONE, 4), GPMF_OUTSIDE, 7));
 }
 
 /* ---- items */
@@ -823,6 +871,8 @@ int main(int count, char **words) {
     last_items();
     elements();
     shapes();
+    parts();
+    values_apart();
     items();
     numbers_at_places();
     numbers();

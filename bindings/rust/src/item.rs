@@ -35,7 +35,7 @@ impl Klv {
         Klv { key: klv.key.to_be_bytes(), data_type: klv.data_type, size: klv.size, repeat: klv.repeat }
     }
 
-    fn to_sys(self) -> sys::Klv {
+    pub(crate) fn to_sys(self) -> sys::Klv {
         sys::Klv { key: u32::from_be_bytes(self.key), data_type: self.data_type, size: self.size, repeat: self.repeat }
     }
 

@@ -5,7 +5,7 @@ use crate::item::Tag;
 use crate::number::Element;
 use crate::refusal::Refusal;
 use crate::rows::{lookup, parse_metadata, row_at, Counts, Group, Row, MOST_ROWS, ROW_WIDTH};
-use crate::value::{columns_at, element, shape_at, Shape};
+use crate::value::{bytes_at, columns_at, element, shape_at, text_at, Shape};
 
 /// What a payload is read as: its rows, which lead to its values.
 ///
@@ -224,7 +224,29 @@ pub struct Item<'a> {
     row: Row,
 }
 
-impl Item<'_> {
+impl<'a> Item<'a> {
+    /// Its own payload, as a part of the bytes that were read.
+    ///
+    /// ```
+    /// let reading = gpmf::Reading::of(b"ABCDB\x05\x00\x01abcde")?;
+    /// assert_eq!(reading.item_of(reading.row(0).unwrap()).bytes()?, b"abcde");
+    /// # Ok::<(), gpmf::Refusal>(())
+    /// ```
+    pub fn bytes(&self) -> Result<&'a [u8], Refusal> {
+        bytes_at(self.payload, self.row.place as usize, self.type_place())
+    }
+
+    /// The text of a row of its value, without the zeros behind it. Refused with 13 too where the value is no text.
+    ///
+    /// ```
+    /// let reading = gpmf::Reading::of(b"UNITc\x03\x00\x02degm\0\0")?;
+    /// assert_eq!(reading.item_of(reading.row(0).unwrap()).text(0)?, b"deg");
+    /// # Ok::<(), gpmf::Refusal>(())
+    /// ```
+    pub fn text(&self, row: usize) -> Result<&'a [u8], Refusal> {
+        text_at(self.payload, self.row.place as usize, self.type_place(), row)
+    }
+
     /// Its row.
     ///
     /// ```

@@ -49,6 +49,7 @@ records! {
     AxesAnswer { kind: u32, number: u32, place: usize, axes: Axes }
     OrientationsAnswer { kind: u32, number: u32, place: usize, orin: Axes, orio: Axes }
     QuaternionAnswer { kind: u32, number: u32, place: usize, quaternion: Quaternion }
+    PartAnswer { kind: u32, number: u32, place: usize, start: usize, length: usize }
     PacketAnswer { kind: u32, number: u32, place: usize, packet: Packet, rest: Packets }
     PacketMetadataAnswer { kind: u32, number: u32, place: usize, packet: Packet, metadata: MetadataAnswer, rest: Packets }
 }
@@ -67,6 +68,29 @@ extern "C" {
     pub fn gpmf_element(s: *const u8, s_len: usize, at: usize, type_at: usize, row: usize, column: usize) -> ElementAnswer;
     pub fn gpmf_shape_at(s: *const u8, s_len: usize, at: usize, type_at: usize) -> ShapeAnswer;
     pub fn gpmf_columns_at(s: *const u8, s_len: usize, at: usize, type_at: usize, row: usize) -> WholeAnswer;
+    pub fn gpmf_klv_at(s: *const u8, s_len: usize, at: usize, type_at: usize) -> ItemAnswer;
+    pub fn gpmf_bytes_at(s: *const u8, s_len: usize, at: usize, type_at: usize) -> PartAnswer;
+    pub fn gpmf_text_at(s: *const u8, s_len: usize, at: usize, type_at: usize, row: usize) -> PartAnswer;
+    pub fn gpmf_element_of(
+        place: usize,
+        klv: Klv,
+        payload: *const u8,
+        payload_len: usize,
+        type_text: *const u8,
+        type_text_len: usize,
+        row: usize,
+        column: usize,
+    ) -> ElementAnswer;
+    pub fn gpmf_shape_of(place: usize, klv: Klv, payload: *const u8, payload_len: usize, type_text: *const u8, type_text_len: usize) -> ShapeAnswer;
+    pub fn gpmf_columns_of(
+        place: usize,
+        klv: Klv,
+        payload: *const u8,
+        payload_len: usize,
+        type_text: *const u8,
+        type_text_len: usize,
+        row: usize,
+    ) -> WholeAnswer;
 
     // items
     pub fn gpmf_cursor_new(at: usize) -> Cursor;
@@ -238,6 +262,7 @@ mod tests {
             AxesAnswer 24: kind 0 number 4 place 8 axes 16;
             OrientationsAnswer 24: kind 0 number 4 place 8 orin 16 orio 19;
             QuaternionAnswer 48: kind 0 number 4 place 8 quaternion 16;
+            PartAnswer 32: kind 0 number 4 place 8 start 16 length 24;
             PacketAnswer 40: kind 0 number 4 place 8 packet 16 rest 32;
             PacketMetadataAnswer 72: kind 0 number 4 place 8 packet 16 metadata 32 rest 64;
         }
