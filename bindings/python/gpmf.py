@@ -182,6 +182,10 @@ class gpmf_quaternion_answer(ctypes.Structure):
     _fields_ = [*_ANSWER, ("quaternion", gpmf_quaternion)]
 
 
+class gpmf_part_answer(ctypes.Structure):
+    _fields_ = [*_ANSWER, ("start", c_size_t), ("length", c_size_t)]
+
+
 class gpmf_packet_answer(ctypes.Structure):
     _fields_ = [*_ANSWER, ("packet", gpmf_packet), ("rest", gpmf_packets)]
 
@@ -207,6 +211,9 @@ _CALLS: Dict[str, Tuple[Any, ...]] = {
     "gpmf_element": (gpmf_element_answer, *_MEMORY, c_size_t, c_size_t, c_size_t, c_size_t),
     "gpmf_shape_at": (gpmf_shape_answer, *_MEMORY, c_size_t, c_size_t),
     "gpmf_columns_at": (gpmf_whole_answer, *_MEMORY, c_size_t, c_size_t, c_size_t),
+    "gpmf_klv_at": (gpmf_item_answer, *_MEMORY, c_size_t, c_size_t),
+    "gpmf_bytes_at": (gpmf_part_answer, *_MEMORY, c_size_t, c_size_t),
+    "gpmf_text_at": (gpmf_part_answer, *_MEMORY, c_size_t, c_size_t, c_size_t),
     "gpmf_element_of": (gpmf_element_answer, *_VALUE, c_size_t, c_size_t),
     "gpmf_shape_of": (gpmf_shape_answer, *_VALUE),
     "gpmf_columns_of": (gpmf_whole_answer, *_VALUE, c_size_t),
@@ -766,6 +773,28 @@ def columns(payload: Bytes, item: ItemOrPlace, row: int, type_place: Optional[in
     return _whole(_call("gpmf_columns_at", _bytes(payload), *_place_and_type(item, type_place), _size(row)))
 
 
+def klv_at(payload: Bytes, item: ItemOrPlace, type_place: Optional[int] = None) -> Item:
+    """The header of an item that has a value. Refused with 1, 2 or 12."""
+    answer = _call("gpmf_klv_at", _bytes(payload), *_place_and_type(item, type_place))
+    _is(answer)
+    return _item(answer)
+
+
+def bytes_at(payload: Bytes, item: ItemOrPlace, type_place: Optional[int] = None) -> memoryview:
+    """An item's own bytes, those behind its header, as a part of the payload. Refused with 1, 2 or 12."""
+    return _part(payload, _call("gpmf_bytes_at", _bytes(payload), *_place_and_type(item, type_place)))
+
+
+def text_at(payload: Bytes, item: ItemOrPlace, row: int, type_place: Optional[int] = None) -> memoryview:
+    """The text of a row of an item's value, as a part of the payload, without the zeros behind it. Refused as an element is; with 13 too where the value is no text."""
+    return _part(payload, _call("gpmf_text_at", _bytes(payload), *_place_and_type(item, type_place), _size(row)))
+
+
+def _part(payload: Bytes, answer: gpmf_part_answer) -> memoryview:
+    _is(answer)
+    return memoryview(payload)[answer.start : answer.start + answer.length]
+
+
 def _of_item(item: Union[Item, Row], data: Bytes, type_text: Bytes) -> Tuple[Any, ...]:
     """The arguments that the calls on an item's own bytes begin with."""
     klv = _klv(item)
@@ -804,7 +833,7 @@ def elements(payload: Bytes, item: ItemOrPlace, type_place: Optional[int] = None
 
 
 def _kept(payload: Bytes, at: int, has: Shape) -> Iterator[bytes]:
-    """The kept bytes of each text of a value that is readable. An element a byte would look at all texts for each."""
+    """The kept bytes of each text of a value that is readable. text_at would look at all texts for each."""
     item = parse_header(payload, at)
     size = data_len(item) if has.kind == Kind.TEXT else item.size
     length = latin1_len if has.kind == Kind.TEXT else utf8_len

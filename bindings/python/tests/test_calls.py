@@ -114,10 +114,24 @@ class Values(Refusing):
         self.assertEqual((row.type_place, gpmf.value(payload, row)), (0, [[-1, 1, 7], [2, 3, 8]]))
         self.refused(12, 16, gpmf.value, payload, 16, 16)
 
+    def test_an_item_as_a_view_has_it(self):
+        payload = item("UNIT", "c", 3, 2, b"degm\0\0") + item("STNM", "c", 1, 4, b"Wet\0") + item("ABCD", "B", 1, 3, b"123")
+        self.assertEqual(gpmf.klv_at(payload, 16), gpmf.Item("STNM", "c", 1, 4, 16))
+        self.assertEqual([bytes(gpmf.bytes_at(payload, at)) for at in (0, 16, 28)], [b"degm\0\0", b"Wet\0", b"123"])
+        self.assertEqual([bytes(gpmf.text_at(payload, at, row)) for at, row in ((0, 0), (0, 1), (16, 0))], [b"deg", b"m", b"Wet"])
+        self.refused(13, 0, gpmf.text_at, payload, 0, 2)
+        self.refused(13, 16, gpmf.text_at, payload, 16, 1)
+        self.refused(13, 28, gpmf.text_at, payload, 28, 0)
+        self.refused(7, 0, gpmf.text_at, item("UNIT", "c", 2, 2, b"ab\xffc"), 0, 0)
+        for call, more in (gpmf.klv_at, ()), (gpmf.bytes_at, ()), (gpmf.text_at, (0,)):
+            self.refused(1, 0, call, bytes(gpmf.MOST_BYTES + 1), 0, *more)
+            self.refused(2, 28, call, payload[:-2], 28, *more)
+            self.refused(12, 40, call, payload, 40, *more)
+
     def test_an_items_own_bytes(self):
         reading = gpmf.rows(raw("packet"))
         for row in reading:
-            data = memoryview(reading.payload)[row.place + 8 :][: gpmf.data_len(row)]
+            data = gpmf.bytes_at(reading.payload, row)
             text = b"" if row.type_place is None else gpmf.value(reading.payload, row.type_place).encode()
             has = reading.shape(row)
             self.assertEqual(gpmf.shape_of(row, data, text), has)
