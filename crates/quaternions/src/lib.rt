@@ -51,7 +51,7 @@ fn sixteen(e: Element) -> i16
 }
 
 // A number of 16 bits.
-pub enum Number {
+enum Number {
     Is(i16),
     Refused { number: u32, place: usize },
 }
@@ -75,7 +75,7 @@ pub enum ScaledRow {
     Refused { number: u32, place: usize },
 }
 
-pub enum Scale {
+enum Scale {
     By(f64),
     Refused { number: u32, place: usize },
 }
