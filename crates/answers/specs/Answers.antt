@@ -188,11 +188,11 @@ read kind number place e = record { kind = kind; number = number; place = place;
 
 abbrev pub ofRead : Read → ElementAnswer
 ofRead (read-as.Is e) = read is 0 0 (ofElement e)
-ofRead (read-as.Refused number place) = read refused number place (ofElement (element.Unsigned 0))
+ofRead (read-as.Refused number place) = read refused number place (ofElement (element.Signed (pos 0)))
 
 -- ---- a shape
 
--- document 01's order: numbers, texts, the rest
+-- numbered in our own order: numbers, texts, the rest
 abbrev pub ofKind : Kind → ℕ
 ofKind kind.Single = 0
 ofKind kind.List = 1
@@ -313,7 +313,7 @@ ofInWindow window.End = packet nothing 0 noPacket noRest
 -- ---- packets of a raw file with their readings
 
 abbrev pub noMetadata : MetadataAnswer
-noMetadata = metadata nothing 0 0 0 0
+noMetadata = metadata refused 0 0 0 0
 
 abbrev pub packetRead : ℕ → ℕ → ℕ → Packet → MetadataAnswer → Packets → PacketMetadataAnswer
 packetRead kind number place p reading rest = record { kind = kind; number = number; place = place; packet = p; metadata = reading; rest = rest }

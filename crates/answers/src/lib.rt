@@ -312,7 +312,7 @@ pub fn of_read(x: Read) -> ElementAnswer
             REFUSED,
             number,
             place,
-            of_element(Element::Unsigned(0)),
+            of_element(Element::Signed(0)),
         ),
     }
 }
@@ -700,7 +700,7 @@ fn packet_read(
 
 // No reading.
 const NO_METADATA: MetadataAnswer = MetadataAnswer {
-    kind: NOTHING,
+    kind: REFUSED,
     number: 0,
     place: 0,
     rows: 0,

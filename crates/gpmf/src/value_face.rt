@@ -1,19 +1,16 @@
-// Values: of the item at a place, and of a header, a payload and a TYPE text.
+// Values of the item at a place.
 use answers::ElementAnswer;
 use answers::ItemAnswer;
 use answers::PartAnswer;
 use answers::ShapeAnswer;
 use answers::WholeAnswer;
-use klv::KLV;
 ghost use mathlib.Core.Path.{_≡_};
 ghost use Rattle.items.specs.At.{foundAt};
-ghost use Rattle.value.specs.Value.{valueOf};
-ghost use Rattle.value.specs.Answer.{elementIn, shapeIn, columnsIn};
 ghost use Rattle.values.specs.At.{klvOfFound, elementOfFound, shapeOfFound, columnsOfFound};
 ghost use Rattle.view.specs.Parts.{bytesOfFound, textOfFound};
 ghost use Rattle.answers.specs.Answers.{ofHeaded, ofRead, ofShaped, ofColumns, ofPart};
 
-// The element at a row and a column.
+// The element at a row and a column, by way of a view.
 #[no_mangle]
 pub extern "C" fn gpmf_element(
     s: &[u8],
@@ -24,7 +21,7 @@ pub extern "C" fn gpmf_element(
 ) -> ElementAnswer
     ensures { λ r. ⌜ r ≡ ofRead (elementOfFound (foundAt (now (s .entry)) at «type_at») at row column) ⌝ }
 {
-    answers::of_read(values::element(s, at, type_at, row, column))
+    answers::of_read(view::viewed_element(s, at, type_at, row, column))
 }
 
 // What a value is called, its rows, and the columns of its first row.
@@ -41,48 +38,6 @@ pub extern "C" fn gpmf_columns_at(s: &[u8], at: usize, type_at: usize, row: usiz
     ensures { λ r. ⌜ r ≡ ofColumns (columnsOfFound (foundAt (now (s .entry)) at «type_at») at row) ⌝ }
 {
     answers::of_columns(values::columns_at(s, at, type_at, row))
-}
-
-// The element of the value of a header, a payload and a TYPE text.
-#[no_mangle]
-pub extern "C" fn gpmf_element_of(
-    place: usize,
-    klv: KLV,
-    payload: &[u8],
-    type_text: &[u8],
-    row: usize,
-    column: usize,
-) -> ElementAnswer
-    ensures { λ r. ⌜ r ≡ ofRead (elementIn place (valueOf klv (now (payload .entry)) (now («type_text» .entry))) row column) ⌝ }
-{
-    answers::of_read(payload_values::element_of(place, klv, payload, type_text, row, column))
-}
-
-// The shape of the same value.
-#[no_mangle]
-pub extern "C" fn gpmf_shape_of(
-    place: usize,
-    klv: KLV,
-    payload: &[u8],
-    type_text: &[u8],
-) -> ShapeAnswer
-    ensures { λ r. ⌜ r ≡ ofShaped (shapeIn place (valueOf klv (now (payload .entry)) (now («type_text» .entry)))) ⌝ }
-{
-    answers::of_shaped(payload_values::shape_of(place, klv, payload, type_text))
-}
-
-// The columns of a row of the same value.
-#[no_mangle]
-pub extern "C" fn gpmf_columns_of(
-    place: usize,
-    klv: KLV,
-    payload: &[u8],
-    type_text: &[u8],
-    row: usize,
-) -> WholeAnswer
-    ensures { λ r. ⌜ r ≡ ofColumns (columnsIn place (valueOf klv (now (payload .entry)) (now («type_text» .entry))) row) ⌝ }
-{
-    answers::of_columns(payload_values::columns_of(place, klv, payload, type_text, row))
 }
 
 // The header of the item at a place.

@@ -1,4 +1,5 @@
 pub mod OneAnswer
+pub mod OneAnswerOutside
 pub mod RowValue
 pub mod MarkedCases
 pub mod NewerCameraCall

@@ -5,14 +5,14 @@ use borrow.Author.Needs.{needs}
 use Rattle.gpmf.proofs.value_face.gpmf_element.Statement.{statement}
 use Rattle.gpmf.proofs.value_face.gpmf_element.Tie as tie
 
-element-requires : tie.Need-element-requires
-element-requires c κs = search needs
+viewed-element-requires : tie.Need-viewed-element-requires
+viewed-element-requires c κs = search needs
 
 of-read-requires : tie.Need-of-read-requires
 of-read-requires c κs = search needs
 
 returns : tie.Need-returns
-returns c = c .of-read .ensures ∙ ap ofRead (c .before .element .ensures)
+returns c = c .of-read .ensures ∙ ap ofRead (c .before .viewed-element .ensures)
 
 pub gpmf-element-spec : {M : Type 1} → statement M
-gpmf-element-spec = tie.close (tie.spec element-requires of-read-requires returns)
+gpmf-element-spec = tie.close (tie.spec viewed-element-requires of-read-requires returns)
