@@ -1,11 +1,11 @@
 // The library for other languages: each public call under C's calling convention. A slice is a pointer and then a length, and an answer a record of
 // numbers (crate `answers`).
-mod axes_face;
-mod group_face;
-mod item_face;
-mod number_face;
-mod packet_face;
-mod print_face;
-mod reading_face;
-mod text_face;
-mod value_face;
+pub mod axes_face;
+pub mod group_face;
+pub mod item_face;
+pub mod number_face;
+pub mod packet_face;
+pub mod print_face;
+pub mod reading_face;
+pub mod text_face;
+pub mod value_face;
