@@ -43,7 +43,7 @@ lines() { cut_out "$gopro" "$1" "$2"; }
     item '^pub[(]crate[)] fn in_memory'
     item '^pub[(]crate[)] fn time_missing_between'
     item '^pub fn find_between_with_offset'
-    item '^pub fn insert_tag'
+    item '^pub fn insert_tag' | sed '1s/insert_tag/insert_tag_published/'
     item '^pub const fn fourcc'
     item '^pub fn read_box<'
     item '^pub fn read_box_data'

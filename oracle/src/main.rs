@@ -1,17 +1,11 @@
 //! The Rust oracle: the published GPMF code behind a line protocol. See README.md.
 //! One function a question: its words in, its answer out, `None` where they are no such question.
-#![allow(dead_code, unused_imports, unused_variables, unused_mut)]
 
-pub mod gopro;
-pub mod stand_ins;
-pub mod tags_impl;
-pub mod util;
-
-pub use stand_ins::*;
-
-use gopro::{GoPro, klv::{KLV, probe}};
+use published::gopro::{GoPro, klv::{KLV, probe}};
+use published::groups::group_number;
+use published::tags_impl::*;
+use published::{InputOptions, SampleInfo};
 use std::io::{BufRead, Cursor, Write};
-use tags_impl::*;
 
 fn answer(line: &str) -> Option<String> {
     let words: Vec<&str> = line.split(' ').collect();
@@ -106,27 +100,6 @@ fn tag(asked: &[&str]) -> Option<String> {
     Some(probe_tag_number(&klv.tag_id()).to_string())
 }
 
-/// The keys that the Rust's `group_from_key` names, in its order, with what it makes of each.
-fn named_groups() -> Vec<([u8; 4], GroupId)> {
-    let custom = |name: &'static str| GroupId::Custom(name.into());
-    vec![
-        (*b"GYRO", GroupId::Gyroscope), (*b"ACCL", GroupId::Accelerometer), (*b"GRAV", GroupId::GravityVector),
-        (*b"MAGN", GroupId::Magnetometer), (*b"CORI", GroupId::CameraOrientation), (*b"IORI", GroupId::ImageOrientation),
-        (*b"SHUT", GroupId::Exposure), (*b"GPS5", GroupId::GPS), (*b"FASC", custom("FovAdaptationScore")),
-        (*b"MWET", custom("MicrophoneWet")), (*b"AALP", custom("AGCAudioLevel")), (*b"WNDM", custom("WindProcessing")),
-        (*b"UNIF", custom("ImageUniformity")), (*b"WRGB", custom("WhiteBalanceRGBGains")),
-        (*b"WBAL", custom("WhiteBalanceTemperature")), (*b"ISOE", custom("SensorISO")),
-    ]
-}
-/// A group's number from 1, 0 for one that is not named, and its key: the name that the Rust kept, a byte for each character.
-fn group_number(group: &GroupId) -> (usize, Vec<u8>) {
-    let named = named_groups();
-    if let Some(at) = named.iter().position(|(_, g)| g == group) { return (at + 1, named[at].0.to_vec()); }
-    match group {
-        GroupId::Custom(kept) => (0, kept.chars().map(|c| u8::try_from(c as u32).expect("Latin-1")).collect()),
-        other => panic!("no key in {other:?}"),
-    }
-}
 /// group KEY
 fn group(asked: &[&str]) -> Option<String> {
     let [name] = asked else { return None };
@@ -280,7 +253,7 @@ fn avg(asked: &[&str]) -> Option<String> {
     }
     let stamp = |s: &SampleInfo| s.tag_map.as_ref().and_then(|m| m.get(&group)).and_then(probe::stamp).map_or("-".into(), |v| v.to_string());
     let stamps: Vec<String> = samples.iter().map(stamp).collect();
-    let missing: Vec<String> = samples.windows(2).map(|p| util::time_missing_between(&p[0], &p[1]).to_string()).collect();
+    let missing: Vec<String> = samples.windows(2).map(|p| probe::missing(&p[0], &p[1]).to_string()).collect();
     let average = probe::avg(&samples, &group).map_or("none".into(), |v| v.show());
     Some(format!("ok {average} stamps={} missing={}", stamps.join(";"), missing.join(";")))
 }

@@ -128,6 +128,21 @@ macro_rules! probe_values {
 }
 with_all_types!(probe_values);
 
+macro_rules! probe_rows {
+    ($($field:ident: $type:ty),*,) => {
+        /// Variant name, the item's bytes and the rows of the value.
+        pub fn probe_rows(v: &TagValue) -> (&'static str, &[u8], crate::plain::ReadBack) {
+            use crate::plain::{ReadBack, read_back};
+            let (variant, raw, rows) = match v {
+                $(TagValue::$field(t) => (stringify!($field), &t.raw_data[..], read_back(t)),)*
+                TagValue::Unknown(t) => ("Unknown", &t.raw_data[..], ReadBack::Is(Vec::new())),
+            };
+            (variant, item_bytes(variant, raw), rows)
+        }
+    };
+}
+with_all_types!(probe_rows);
+
 /// Document 01's tag numbers.
 pub fn probe_tag_number(t: &TagId) -> u32 {
     match t {
