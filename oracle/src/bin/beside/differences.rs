@@ -60,27 +60,22 @@ fn over_limit(payload: &[u8], rows: usize, headers: usize, number: u32, place: u
     same("the refusal", &(REFUSED, number, place), &(answer.kind, answer.number, answer.place))
 }
 
-/// A duration list: what the Rust answers, and a refusal with 11.
-fn refused_list(packets: &[Timed], theirs: Option<f64>) -> Outcome {
+/// A duration list: what the Rust answers, and a refusal with 11 that falls under an entry.
+fn refused_list(packets: &[Timed], theirs: Option<f64>, entry: Listed) -> Outcome {
     let payload = |p: &Timed| [p.stamp.map_or(Vec::new(), |us| one(b"STMP", b'J', &us.to_be_bytes())), crate::items::item(b"GYRO", b's', 6, p.count as usize, &vec![0; 6 * p.count as usize])].concat();
     let samples = packets.iter().map(|p| published::SampleInfo { timestamp_ms: p.at, duration_ms: p.duration, tag_map: published_side::walk(&payload(p), false).map, ..Default::default() }).collect();
     same("the Rust's average", &theirs.map(double), &probe::avg(&samples, &GroupId::Default).map(double))?;
-    listed_alone(Listed::ALL.iter().copied().find(|l| matches!(l, Listed::Packets | Listed::Stamp | Listed::Finite) && counted(*l, &Input::Average(packets.to_vec()))), &Input::Average(packets.to_vec()))
+    listed_alone(entry, &Input::Average(packets.to_vec()))
 }
 
-/// Whether a comparison counts an input under an entry.
-fn counted(entry: Listed, input: &Input) -> bool {
-    let mut tally = Tally::new();
-    input.ask(&mut tally).is_ok() && tally.listed[entry as usize] > 0
-}
-
-/// A comparison counts an input under one entry, and under no other but 9, which every header that is not there falls under.
-fn listed_alone(entry: Option<Listed>, input: &Input) -> Outcome {
+/// A comparison counts an input under these entries, and under no other but 9, which every header that is not there falls under.
+fn listed_among(entries: &[Listed], input: &Input) -> Outcome {
     let mut tally = Tally::new();
     input.ask(&mut tally)?;
     let met: Vec<Listed> = Listed::ALL.iter().copied().filter(|l| tally.listed[*l as usize] > 0 && *l != Listed::TwoFindings).collect();
-    same("the entries that an input falls under", &entry.into_iter().collect(), &met)
+    same("the entries that an input falls under", &entries.to_vec(), &met)
 }
+fn listed_alone(entry: Listed, input: &Input) -> Outcome { listed_among(&[entry], input) }
 
 fn text(letters: &[u8]) -> Vec<Vec<Plain>> { vec![letters.iter().map(|b| Plain::Unsigned(*b as u64)).collect()] }
 fn unsigned(rows: &[&[u64]]) -> Vec<Vec<Plain>> { rows.iter().map(|row| row.iter().map(|n| Plain::Unsigned(*n)).collect()).collect() }
@@ -133,34 +128,34 @@ fn limits_of_payloads() -> Outcome {
     over_limit(&long, 0, 131_072, 1, 0)?;
     over_limit(&deep, 0, 35, 4, 0)?;
     over_limit(&wide, 4097, 4097, 5, 4096 * 12)?;
-    listed_alone(Some(Listed::Bytes), &Input::Payload(long))?;
-    listed_alone(Some(Listed::Depth), &Input::Payload(deep))?;
-    listed_alone(Some(Listed::Rows), &Input::Payload(wide))
+    listed_alone(Listed::Bytes, &Input::Payload(long))?;
+    listed_alone(Listed::Depth, &Input::Payload(deep))?;
+    listed_alone(Listed::Rows, &Input::Payload(wide))
 }
 
 fn limit_of_types() -> Outcome {
     same("how many letters the Rust has", &257, &probe::expand("f[257]").len())?;
     same("resolve_custom_type", &(REFUSED, 8), &{ let (answer, _) = library::resolve_custom_type(b"f[257]"); (answer.kind, answer.number) })?;
-    listed_alone(Some(Listed::LongType), &Input::TypeText(b"f[257]".to_vec()))
+    listed_alone(Listed::LongType, &Input::TypeText(b"f[257]".to_vec()))
 }
 
 fn limits_of_lists() -> Outcome {
     let one = Timed { count: 1, stamp: None, duration: 1000.0, at: 0.0 };
-    refused_list(&vec![one; 2049], Some(1000.0))?;
-    refused_list(&[Timed { stamp: Some(1 << 42), ..one }], Some(1000.0))?;
-    refused_list(&[Timed { duration: f64::INFINITY, ..one }], Some(f64::INFINITY))?;
-    listed_alone(Some(Listed::Readings), &Input::Average(vec![Timed { count: 65_536, ..one }]))
+    refused_list(&vec![one; 2049], Some(1000.0), Listed::Packets)?;
+    refused_list(&[Timed { stamp: Some(1 << 42), ..one }], Some(1000.0), Listed::Stamp)?;
+    refused_list(&[Timed { duration: f64::INFINITY, ..one }], Some(f64::INFINITY), Listed::Finite)?;
+    listed_alone(Listed::Readings, &Input::Average(vec![Timed { count: 65_536, ..one }]))
 }
 
 fn panics() -> Outcome {
     for (date, number) in [("41424344 55 01 0001 32", 6), ("41424344 55 10 0001 32c3a930323239313230303030303030", 7)] {
         refused_value(date, true, number)?;
-        listed_alone(Some(Listed::DatePanic), &Input::Payload(bytes(date)))?;
+        listed_alone(Listed::DatePanic, &Input::Payload(bytes(date)))?;
     }
     for numbers in [vec![0.0; 9], vec![1.0]] {
         same("the Rust's axes", &None, &caught(|| probe::back(&numbers)))?;
         same("mtrx_to_orientation", &(REFUSED, 10), &{ let answer = library::mtrx_to_orientation(&numbers); (answer.kind, answer.number) })?;
-        listed_alone(Some(Listed::MatrixPanic), &Input::Matrix(numbers))?;
+        listed_alone(Listed::MatrixPanic, &Input::Matrix(numbers))?;
     }
     Ok(())
 }
@@ -182,10 +177,8 @@ fn stamps_of_dates() -> Outcome {
         let payload = gyro_stream(one(b"STMP", b'U', date));
         same("the stamps", &(theirs, Err(number)), &stamps(&payload))?;
         // the value of a date of 2 bytes is itself an entry, 7
-        let other = if number == 6 { Some(Listed::DatePanic) } else { None };
-        let mut tally = Tally::new();
-        Input::Payload(payload).ask(&mut tally)?;
-        same("the entries", &(1, u64::from(other.is_some())), &(tally.listed[Listed::StampDate as usize], tally.listed[Listed::DatePanic as usize].min(1)))?;
+        let entries: &[Listed] = if number == 6 { &[Listed::DatePanic, Listed::StampDate] } else { &[Listed::StampDate] };
+        listed_among(entries, &Input::Payload(payload))?;
     }
     Ok(())
 }
@@ -247,7 +240,7 @@ fn bits_of_nan() -> Outcome {
     same("the bits that the Rust keeps", &0x7fc0_0001, &kept.get().to_bits())?;
     let ours = library::element(&payload, 0, library::NO_TYPE as usize, 0, 0).element.single_value;
     same("one NaN", &(true, false), &(ours.is_nan(), ours.to_bits() == 0x7fc0_0001))?;
-    listed_alone(Some(Listed::Nan), &Input::Payload(payload))
+    listed_alone(Listed::Nan, &Input::Payload(payload))
 }
 
 fn brackets() -> Outcome {
@@ -259,13 +252,13 @@ fn brackets() -> Outcome {
 fn other_axes() -> Outcome {
     same("the Rust's matrix", &Some(vec![1.0]), &KLV::orientations_to_matrix("X", "X"))?;
     same("orientations_of", &(REFUSED, 9), &{ let answer = library::orientations_of(b"X", b"X"); (answer.kind, answer.number) })?;
-    listed_alone(Some(Listed::Axes), &Input::Axes(b"X".to_vec(), b"X".to_vec()))?;
+    listed_alone(Listed::Axes, &Input::Axes(b"X".to_vec(), b"X".to_vec()))?;
     let payload = gyro_stream([one(b"ORIN", b'c', b"\xe9YZ"), one(b"ORIO", b'c', b"\xe9YZ")].concat());
     let map = published_side::walk(&payload, false).map.expect("an accepted reading");
     same("the Rust's axes", &Some("XYZ".to_string()), &probe::oriented_group(&GroupId::Gyroscope, &map[&GroupId::Gyroscope]))?;
     let (answer, rows) = library::read(&payload, false, 80);
     same("orientation_of_group", &(REFUSED, 9), &{ let axes = library::orientation_of_group(&payload, &rows, answer.rows, 1, u32::from_be_bytes(*b"GYRO")); (axes.kind, axes.number) })?;
-    listed_alone(Some(Listed::Axes), &Input::Payload(payload))
+    listed_alone(Listed::Axes, &Input::Payload(payload))
 }
 
 fn devc_inside() -> Outcome {
@@ -274,7 +267,7 @@ fn devc_inside() -> Outcome {
     let answer = library::next_metadata(library::packets_new(0), &file, false, &mut [0; 8]);
     same("the packet", &((8, 16), (REFUSED, 2, 0)), &((answer.packet.start, answer.packet.end), (answer.metadata.kind, answer.metadata.number, answer.metadata.place)))?;
     same("the next", &NOTHING, &library::next_metadata(answer.rest, &file, false, &mut [0; 8]).kind)?;
-    listed_alone(Some(Listed::Told), &Input::File(file))
+    listed_alone(Listed::Told, &Input::File(file))
 }
 
 fn short_quaternions_and_stamps() -> Outcome {
@@ -283,20 +276,35 @@ fn short_quaternions_and_stamps() -> Outcome {
     same("how many quaternions the Rust has", &Some(0), &probe::quaternions(&map[&GroupId::CameraOrientation]).map(|list| list.len()))?;
     let (answer, rows) = library::read(&payload, false, 8);
     same("scaled_quaternion", &(REFUSED, 6), &{ let q = library::scaled_quaternion(&payload, &rows, answer.rows, 1, u32::from_be_bytes(*b"CORI"), 0); (q.kind, q.number) })?;
-    listed_alone(Some(Listed::ShortQuaternions), &Input::Payload(payload))?;
+    listed_alone(Listed::ShortQuaternions, &Input::Payload(payload))?;
     let payload = gyro_stream(bytes("53544d50 4a 08 0001 8000000000000000"));
     same("the stamps", &(Some(Some(i64::MIN)), Ok(1 << 63)), &stamps(&payload))?;
-    listed_alone(Some(Listed::NegativeStamp), &Input::Payload(payload))
+    listed_alone(Listed::NegativeStamp, &Input::Payload(payload))
 }
 
-const ENTRIES: [(&str, fn() -> Outcome); 22] = [
+fn axes_of_unread_values() -> Outcome {
+    let orin = [one(b"ORIN", b'U', b"2"), one(b"ORIO", b'B', b"X")].concat();
+    for items in [one(b"MTRX", b'U', b"2"), orin] {
+        let payload = gyro_stream(items);
+        let map = published_side::walk(&payload, false).map.expect("an accepted reading");
+        same("the Rust's axes", &None, &probe::oriented_group(&GroupId::Gyroscope, &map[&GroupId::Gyroscope]))?;
+        let (answer, rows) = library::read(&payload, false, 80);
+        let axes = library::orientation_of_group(&payload, &rows, answer.rows, 1, u32::from_be_bytes(*b"GYRO"));
+        same("orientation_of_group", &(REFUSED, 6, 8), &(axes.kind, axes.number, axes.place))?;
+        // the value of a date of 1 byte is itself an entry, 7
+        listed_among(&[Listed::DatePanic, Listed::AxesValue], &Input::Payload(payload))?;
+    }
+    Ok(())
+}
+
+const ENTRIES: [(&str, fn() -> Outcome); 23] = [
     ("1, the divisor of Q", divisor_of_q), ("2, size against the widths of letters", size_against_widths), ("3, MAGN has a group and no tag", magn_has_no_tag),
     ("4, impossible dates", impossible_dates), ("5, a negation that a debug build stops at", negation), ("6, limits of a payload", limits_of_payloads), ("6, the limit of a type", limit_of_types),
     ("6, limits of a duration list", limits_of_lists), ("7, where the Rust panics", panics), ("8, a stamp whose date is not readable", stamps_of_dates), ("9, one error for two findings", two_findings),
     ("10, padding that is not there, and bytes left over", padding_and_left_over), ("11, texts that are not ASCII", texts_not_ascii), ("12, x[0] in a TYPE", count_of_zero),
     ("13, texts, identifiers and dates inside a structure", texts_in_structures), ("14, several keys, identifiers or dates in one item", several_in_one), ("15, signs in a date", signs_in_dates),
     ("16, the bits of a NaN", bits_of_nan), ("17, brackets in a TYPE", brackets), ("18, axes that are not three ASCII characters", other_axes), ("19, DEVC inside a packet", devc_inside),
-    ("20, quaternions with too few bytes, and stamps of 2^63 or more", short_quaternions_and_stamps),
+    ("20, quaternions with too few bytes, and stamps of 2^63 or more", short_quaternions_and_stamps), ("21, axes out of a value that cannot be read", axes_of_unread_values),
 ];
 
 /// Every entry is as it says; each that is not is told.

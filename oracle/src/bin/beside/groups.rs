@@ -120,8 +120,27 @@ impl Asked<'_> {
             (Some(None), NOTHING) => Ok(()),
             (None, REFUSED) if answer.number == 10 => { tally.listed(Listed::MatrixPanic); Ok(()) }
             (_, REFUSED) if answer.number == 9 && self.has_other_axes() => { tally.listed(Listed::Axes); Ok(()) }
+            (Some(None), REFUSED) if self.is_unread(answer) => { tally.listed(Listed::AxesValue); Ok(()) }
             _ => Err(format!("orientation_of_group: the Rust has {theirs:?}, the library {answer:?}")),
         }
+    }
+
+    /// Whether a refusal is that of the value of a MTRX, ORIN or ORIO which is no text and no matrix, so that the Rust does not read it.
+    fn is_unread(&self, answer: library::AxesAnswer) -> bool {
+        let (kind, key) = group(self.id);
+        [(TagId::Matrix, b"MTRX"), (TagId::OrientationIn, b"ORIN"), (TagId::OrientationOut, b"ORIO")].iter().any(|(id, name)| {
+            let Some(entry) = self.tags.get(id) else { return false };
+            let item = library::tagged_item(self.bytes, self.rows, self.count, kind, key, probe_tag_number(id), u32::from_be_bytes(**name));
+            let shape = library::shape_at(self.bytes, item.place, self.type_place(item.place));
+            let passed_over = !matches!(probe_rows(&entry.value).0, "String" | "Vec_Vec_f32");
+            passed_over && (shape.kind, shape.number, shape.place) == (REFUSED, answer.number, answer.place)
+        })
+    }
+
+    /// The TYPE of the row of an item at a place.
+    fn type_place(&self, place: usize) -> usize {
+        let row = (0..self.count).map(|n| library::row_at(self.rows, n).row).find(|row| row.place as usize == place);
+        row.map_or(library::NO_TYPE, |row| row.type_place) as usize
     }
 
     /// Whether ORIN or ORIO is a text of another length than three, or not ASCII.

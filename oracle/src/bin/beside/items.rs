@@ -209,7 +209,7 @@ fn axes(draw: &mut Draw, key: &[u8]) -> Vec<u8> {
         0 | 1 => item(key, b'c', 1, text.len(), &text),
         2 => one(key, b'c', &text),
         3 => one(key, b'F', &text),
-        4 => one(key, draw.pick(b"BU"), &text),
+        4 => one(key, draw.pick(b"BUG?"), &text),
         _ => Vec::new(),
     }
 }
@@ -221,7 +221,7 @@ fn matrix(draw: &mut Draw) -> Vec<u8> {
         0..3 => item(b"MTRX", b'f', 36, 1, &bytes),
         3 => item(b"MTRX", b'f', 4, 9, &bytes),
         4 => item(b"MTRX", b'f', 12, 3, &bytes),
-        5 => item(b"MTRX", draw.pick(b"lqL"), 36, 1, &bytes),
+        5 => item(b"MTRX", draw.pick(b"lqLUGc?d"), 12, 3, &bytes),
         6 => item(b"MTRX", b'f', 72, 1, &[&bytes[..], &bytes].concat()),
         7 => item(b"MTRX", b'f', 36, 2, &[&bytes[..], &bytes].concat()),
         8 => item(b"MTRX", b'f', draw.below(3) + 1, 4, &bytes[..12])[..12 + 8].to_vec(),

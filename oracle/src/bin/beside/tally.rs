@@ -38,6 +38,7 @@ named! {
         DatePanic = "7, a date at which the Rust panics", MatrixPanic = "7, a matrix at which the Rust panics", StampDate = "8, a stamp whose date is not readable",
         TwoFindings = "9, one error for two findings", Nan = "16, the bits of a NaN", Axes = "18, axes that are not three ASCII characters",
         Told = "19, a packet that is refused and told", ShortQuaternions = "20, quaternions with too few bytes", NegativeStamp = "20, a stamp of 2^63 or more",
+        AxesValue = "21, axes out of a value that cannot be read",
     }
 }
 
