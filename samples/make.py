@@ -17,13 +17,13 @@ SEED = 1
 FIRST_SECOND = datetime.datetime(2024, 2, 29, 23, 59, 58)  # midnight and a leap day lie within the take
 
 # A second each. Of the microphones: whether the main one is wet, reading by reading, whether all are, and the confidence in that, of 100. Of the automatic gain: the
-# level and the peak level in dBFS, about which the readings lie. Then how many faces the picture has.
+# numbers about which the readings of the level and of the peak level lie, and what divides each into dBFS. Then how many faces the picture has.
 SECONDS = (
-    ("0000", "0000", 96, -30, -21, 0),
-    ("0011", "0000", 62, -36, -27, 1),
-    ("1111", "0111", 91, -47, -38, 2),
-    ("1100", "1000", 70, -41, -29, 0),
-    ("0000", "0000", 94, -24, -12, 1),
+    ("0000", "0000", 96, -30, -21, (1, 1), 0),
+    ("0011", "0000", 62, -36, -27, (1, 1), 1),
+    ("1111", "0111", 91, -47, -38, (2, 4), 2),
+    ("1100", "1000", 70, -41, -29, (1, 1), 0),
+    ("0000", "0000", 94, -24, -12, (1, 1), 1),
 )
 
 
@@ -93,7 +93,7 @@ class Camera:
             self.stream(second, "Faces", faces, text("TYPE", "Lffff"), item("FACE", "?", 20, faces, found)),
         )
 
-    def sound(self, second, main, every, confidence, level, peak):
+    def sound(self, second, main, every, confidence, level, peak, scales):
         count = len(main)
         wind = [value for _ in range(count) for value in (self.whole(0, 1), self.whole(0, 100))]
         wet = [value for pair in zip(main, every) for value in (int(pair[0]), int(pair[1]), confidence + self.whole(-4, 4))]
@@ -101,7 +101,7 @@ class Camera:
         return (
             self.stream(second, "Wind Processing", count, numbers("WNDM", "B", 2, wind)),
             self.stream(second, "Microphone Wet", count, numbers("MWET", "B", 3, wet)),
-            self.stream(second, "AGC audio level", count, texts("SIUN", "dBFS"), numbers("SCAL", "s", 1, [1, 1]), numbers("AALP", "b", 2, gain)),
+            self.stream(second, "AGC audio level", count, texts("SIUN", "dBFS"), numbers("SCAL", "s", 1, scales), numbers("AALP", "b", 2, gain)),
         )
 
     def place(self, second):
@@ -113,11 +113,11 @@ class Camera:
             numbers("SCAL", "l", 1, [10_000_000, 10_000_000, 1000, 1000, 100]), numbers("GPS5", "l", 5, readings),
         )
 
-    def packet(self, second, main, every, confidence, level, peak, faces):
+    def packet(self, second, main, every, confidence, level, peak, scales, faces):
         warmth = numbers("TMPC", "f", 1, [30 + self.whole(0, 40) / 8])
         accelerometer = self.motion(second, "Accelerometer", "ACCL", "m/s\xb2", 417)
         gyroscope = self.motion(second, "Gyroscope", "GYRO", "rad/s", 939, warmth)
-        streams = accelerometer, gyroscope, *self.picture(second, faces), *self.sound(second, main, every, confidence, level, peak), self.place(second)
+        streams = accelerometer, gyroscope, *self.picture(second, faces), *self.sound(second, main, every, confidence, level, peak, scales), self.place(second)
         return container("DEVC", numbers("DVID", "L", 1, [1]), text("DVNM", "Camera"), *streams)
 
 

@@ -23,7 +23,7 @@ def stored(name):
 
 
 def seconds():
-    """The table of README.md: of each second the three columns of MWET and the two of AALP, a list each."""
+    """The table of README.md: of each second the three columns of MWET and the two of AALP, a list each, and the two scales of AALP."""
     lines = [line.strip("|").split("|") for line in stored("README.md").splitlines() if re.match(r"\|( -?\d+)+ \|( -?\d+)+ \|", line)]
     return {int(line[0]): [[int(number) for number in cell.split()] for cell in line[1:]] for line in lines}
 

@@ -61,7 +61,8 @@ class Values(unittest.TestCase):
         for packet in self.packets:
             columns = table[packet.number]
             self.assertEqual(self.values(packet.reading, "MWET", "MWET"), [list(each) for each in zip(*columns[:3])])
-            self.assertEqual(self.values(packet.reading, "AALP", "AALP"), [list(each) for each in zip(*columns[3:])])
+            self.assertEqual(self.values(packet.reading, "AALP", "AALP"), [list(each) for each in zip(*columns[3:5])])
+            self.assertEqual(self.values(packet.reading, "AALP", "SCAL"), columns[5])
 
     def test_an_element_is_that_of_the_value(self):
         for reading in self.readings:
@@ -85,7 +86,6 @@ class Values(unittest.TestCase):
     def test_numbers(self):
         for reading in self.readings:
             self.assertEqual(self.values(reading, None, "DVID"), 1)
-            self.assertEqual(self.values(reading, "AALP", "SCAL"), [1, 1])
             self.assertEqual(self.values(reading, "GPS5", "SCAL"), [10_000_000, 10_000_000, 1000, 1000, 100])
             self.assertEqual(self.values(reading, "ACCL", "MTRX"), [[0, 0, 1, 0, -1, 0, 1, 0, 0]])
 
