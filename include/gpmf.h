@@ -8,7 +8,8 @@
  *   - a bool is false or true.
  *
  * An answer begins with its kind: GPMF_IS with its values, GPMF_NOTHING, GPMF_MORE, or GPMF_REFUSED with a refusal's number and place. What an
- * answer does not have is 0. A place is counted in bytes from the start of the payload or file. A refused call leaves what was lent as it was.
+ * answer does not have is 0. A place is counted in bytes from the start of the payload or file. A refused call leaves what was lent as it was, with one exception:
+ * gpmf_put_packet without `whole` lays the refusal and what stands before its place, and so overwrites `rows` by those of that front; with `whole` they stay.
  *
  * A payload is what stands in a DEVC of a raw file, or in a sample of a video's metadata track: items one behind the other. */
 #ifndef GPMF_H
@@ -53,6 +54,23 @@ extern "C" {
 #define GPMF_NO_TYPE UINT32_C(4294967295) /* the place of a TYPE where none is in force */
 #define GPMF_FULL SIZE_MAX                /* the place behind text that did not fit its buffer */
 
+/* Kinds of a group. */
+#define GPMF_GROUP_CALLER UINT32_C(0) /* the caller's: of the outermost items, and of all items of a forced reading; its key is 0 */
+#define GPMF_GROUP_BY_KEY UINT32_C(1) /* named by the key of the last item of the container */
+
+/* Tags: what an item is for, by its key. */
+#define GPMF_TAG_OTHER UINT32_C(0)        /* all other keys */
+#define GPMF_TAG_DATA UINT32_C(1)         /* the readings: GYRO ACCL GRAV WBAL ISOE SHUT MWET IORI CORI AALP WNDM UNIF WRGB GPS5 FASC */
+#define GPMF_TAG_UNIT UINT32_C(2)         /* SIUN, UNIT */
+#define GPMF_TAG_MATRIX UINT32_C(3)       /* MTRX */
+#define GPMF_TAG_SCALE UINT32_C(4)        /* SCAL: what the readings are divided by */
+#define GPMF_TAG_TIMESTAMP_US UINT32_C(5) /* STMP: a time in microseconds */
+#define GPMF_TAG_NAME UINT32_C(6)         /* STNM of a stream, DVNM of a device */
+#define GPMF_TAG_TMPC UINT32_C(7)         /* a temperature */
+#define GPMF_TAG_TSMP UINT32_C(8)         /* the samples so far */
+#define GPMF_TAG_ORIN UINT32_C(9)         /* the order of the axes that come in */
+#define GPMF_TAG_ORIO UINT32_C(10)        /* the order in which they are wanted */
+
 /* A key of four letters as one number: GPMF_KEY('M', 'W', 'E', 'T'). */
 #define GPMF_KEY(a, b, c, d) \
     ((uint32_t)(unsigned char)(a) << 24 | (uint32_t)(unsigned char)(b) << 16 | (uint32_t)(unsigned char)(c) << 8 | (uint32_t)(unsigned char)(d))
@@ -76,9 +94,9 @@ typedef struct gpmf_group_id {
 /* A row of a reading. */
 typedef struct gpmf_row {
     uint32_t place;      /* of the item's header */
-    uint32_t group_kind; /* 0 the caller's, 1 by key */
+    uint32_t group_kind; /* GPMF_GROUP_CALLER or GPMF_GROUP_BY_KEY */
     uint32_t group_key;  /* the key of the group, or 0 */
-    uint32_t tag;        /* the key's number in the table of tags, 0 for others */
+    uint32_t tag;        /* GPMF_TAG_DATA to GPMF_TAG_ORIO, GPMF_TAG_OTHER for other keys */
     uint32_t key;
     uint32_t shape;      /* type x 2^24 + size x 2^16 + repeat */
     uint32_t type_place; /* of the TYPE in force for a `?` item, else GPMF_NO_TYPE */
@@ -111,7 +129,7 @@ typedef struct gpmf_number {
     double double_value;
 } gpmf_number;
 
-/* Three axes, a letter each: X, Y or Z, small for the other direction. */
+/* Three axes, a character each; a camera's are X, Y and Z, small for the other direction. */
 typedef struct gpmf_axes {
     uint8_t first;
     uint8_t second;
@@ -123,6 +141,7 @@ typedef struct gpmf_matrix {
     float entries[9];
 } gpmf_matrix;
 
+/* A quaternion: its real part, then those along the first, the second and the third axis. */
 typedef struct gpmf_quaternion {
     double w;
     double x;
@@ -265,7 +284,8 @@ typedef struct gpmf_packet_answer {
     gpmf_packets rest;
 } gpmf_packet_answer;
 
-/* A packet, what its payload is read as, and the cursor to go on with. A packet that was cut is GPMF_IS, also where its reading in `metadata` is refused. */
+/* A packet, what its payload is read as, and the cursor to go on with. A packet that was cut is GPMF_IS, also where its reading in `metadata` is refused; where none
+ * was cut, `metadata` is all zeros. */
 typedef struct gpmf_packet_metadata_answer {
     uint32_t kind;
     uint32_t number;
@@ -290,46 +310,43 @@ gpmf_row_answer gpmf_row_at(const uint32_t *rows, size_t rows_len, size_t n);
 /* Stores a row as the n-th, and tells whether there is room for it. */
 bool gpmf_put_row(uint32_t *out, size_t out_len, size_t n, gpmf_row row);
 
-/* The index of the last of the first `count` rows of a group and a tag; with tag 0, of a group and a key. Refused with 5 where so many rows have no room. */
+/* The index of the last of the first `count` rows of a group and a tag; with GPMF_TAG_OTHER, of a group and a key. GPMF_NOTHING where there is none. Refused with 5,
+ * at place 0, where so many rows have no room. */
 gpmf_whole_answer gpmf_lookup(const uint32_t *rows, size_t rows_len, size_t count, uint32_t group_kind, uint32_t group_key, uint32_t tag, uint32_t key);
 
-/* The last item of the level from a place to the end. Refused with 2 or 3, at the place where the search stops. */
+/* The last item of the level from a place to the end; GPMF_NOTHING where there is none. Refused with 2 or 3, at the place where the search stops. */
 gpmf_item_answer gpmf_last_item(const uint8_t *s, size_t s_len, size_t at);
 
-/* The last item of a payload. Refused with 1, 2 or 3. */
+/* The last item of a payload; GPMF_NOTHING where there is none. Refused with 1, at place 0, or with 2 or 3, at the place where the search stops. */
 gpmf_item_answer gpmf_get_last_klv(const uint8_t *payload, size_t payload_len);
 
 /* ---- values: of the item whose header stands at `at`, with its TYPE at `type_at` (GPMF_NO_TYPE for none), as a row has them */
 
-/* The element at a row and a column. Refused with 1, 2, 6, 7, 8, 12 or 13, at the place asked. */
+/* The element at a row and a column. Refused with 1, at place 0, or with 2, 6, 7, 8, 12 or 13, at the place asked. */
 gpmf_element_answer gpmf_element(const uint8_t *s, size_t s_len, size_t at, size_t type_at, size_t row, size_t column);
 
-/* What the value is called, its rows, and the columns of its first row. */
+/* What the value is called, its rows, and the columns of its first row. Refused as gpmf_element, but for 13. */
 gpmf_shape_answer gpmf_shape_at(const uint8_t *s, size_t s_len, size_t at, size_t type_at);
 
-/* The columns of a row: of a text, its bytes. */
+/* The columns of a row: of a text, its bytes. Refused as gpmf_element; with 13 where the row lies outside. */
 gpmf_whole_answer gpmf_columns_at(const uint8_t *s, size_t s_len, size_t at, size_t type_at, size_t row);
 
-/* The header of the item. Refused with 1, 2 or 12 as its value is. */
+/* The header of the item. Refused with 1, at place 0, or with 2 or 12, at the place asked. */
 gpmf_item_answer gpmf_klv_at(const uint8_t *s, size_t s_len, size_t at, size_t type_at);
 
-/* Which part of s the item's own payload is: s + start, `length` bytes. */
+/* Which part of s the item's own payload is: s + start, `length` bytes. Refused as gpmf_klv_at. */
 gpmf_part_answer gpmf_bytes_at(const uint8_t *s, size_t s_len, size_t at, size_t type_at);
 
 /* Which part of s the text of a row is, without the zeros behind it. Refused as gpmf_columns_at; with 13 too where the value is no text. */
 gpmf_part_answer gpmf_text_at(const uint8_t *s, size_t s_len, size_t at, size_t type_at, size_t row);
-
-/* The element, the shape and the columns of a header, the payload behind it and a TYPE text without its trailing zeros (of length 0 for none); `place` is what a refusal tells as its place. */
-gpmf_element_answer gpmf_element_of(size_t place, gpmf_klv klv, const uint8_t *payload, size_t payload_len, const uint8_t *type_text, size_t type_text_len, size_t row, size_t column);
-gpmf_shape_answer gpmf_shape_of(size_t place, gpmf_klv klv, const uint8_t *payload, size_t payload_len, const uint8_t *type_text, size_t type_text_len);
-gpmf_whole_answer gpmf_columns_of(size_t place, gpmf_klv klv, const uint8_t *payload, size_t payload_len, const uint8_t *type_text, size_t type_text_len, size_t row);
 
 /* ---- items */
 
 /* A cursor at a place. */
 gpmf_cursor gpmf_cursor_new(size_t at);
 
-/* The header at a cursor, of an item whose payload is all there. Refused with 12 where fewer than 8 bytes are left, with 2 where the payload runs past the end. */
+/* The header at a cursor, of an item whose payload is all there. Refused with 12 where fewer than 8 bytes are left, with 2 where the payload runs past the end, at
+ * the cursor's place. */
 gpmf_item_answer gpmf_parse_header(gpmf_cursor cursor, const uint8_t *s, size_t s_len);
 
 /* The length of an item's payload: size times repeat. */
@@ -344,7 +361,7 @@ bool gpmf_is_one_text(gpmf_klv klv);
 /* Whether the item is a TYPE whose value is one text. */
 bool gpmf_is_type_text(gpmf_klv klv);
 
-/* The number of a key in the table of tags, 1 to 10; 0 for others. */
+/* The tag of a key: GPMF_TAG_DATA to GPMF_TAG_ORIO, GPMF_TAG_OTHER for other keys. */
 uint32_t gpmf_tag_id(uint32_t key);
 
 /* The group that a key names. */
@@ -370,16 +387,18 @@ size_t gpmf_width(uint8_t letter);
 /* What the bytes at a place stand for, by the letter of a type; the unsigned 0 where they are not all there. */
 gpmf_number gpmf_element_at(const uint8_t *s, size_t s_len, size_t at, uint8_t letter);
 
-/* The exact form of the Q number at a place. */
+/* The exact form of the Q number at a place; 0 / 4294967295 where its bytes are not all there. */
 gpmf_exact gpmf_exact_at(const uint8_t *s, size_t s_len, size_t at);
 
-/* The bits of a float, and of a double; of every NaN those of one. */
+/* The bits of a float; of every NaN those of one. */
 uint32_t gpmf_single_bits(float x);
+
+/* The bits of a double; of every NaN those of one. */
 uint64_t gpmf_double_bits(double x);
 
 /* ---- texts and dates */
 
-/* A TYPE text written out into out, and how many characters it has. Refused with 8 where it is over 256 characters. */
+/* A TYPE text written out into out, and how many characters it has. Refused with 8, at place 0, where it is over 256 characters. */
 gpmf_whole_answer gpmf_resolve_custom_type(const uint8_t *text, size_t text_len, uint8_t out[256]);
 
 /* How many bytes of a Latin-1 text are kept: all but its trailing zeros. */
@@ -394,21 +413,25 @@ bool gpmf_is_utf8(const uint8_t *text, size_t text_len);
 /* Whether each run of `size` bytes is, up to its first zero; with size 0, the whole. */
 bool gpmf_are_utf8(const uint8_t *texts, size_t texts_len, size_t size);
 
-/* Milliseconds from the start of 1970 to the date yymmddhhmmss.sss. Refused with 6 under 16 bytes, with 7 where it is not readable. */
+/* Milliseconds from the start of 1970 to the date yymmddhhmmss.sss, 0 for a date or a time that is impossible. Refused with 6 under 16 bytes, with 7 where it is not
+ * readable, at place 0. */
 gpmf_whole_answer gpmf_parse_utcdate(const uint8_t *text, size_t text_len);
 
-/* ---- what the first `count` rows of a reading lead to, for a group */
+/* ---- what the first `count` rows of a reading lead to, for a group. Calls that are lent a payload and rows are refused with 1, at place 0, and with 5 as
+ * gpmf_lookup; what is refused of an item that a row leads to has that row's place */
 
-/* The item of a group and tag (with tag 0, key). Refused with 1, with 5 as gpmf_lookup, with 2 or 12 where the row's place holds no such item. */
+/* The item of a group and tag (with GPMF_TAG_OTHER, key); GPMF_NOTHING where there is no such row. Refused with 2 or 12 where the row's place holds no such item. */
 gpmf_item_answer gpmf_tagged_item(const uint8_t *s, size_t s_len, const uint32_t *rows, size_t rows_len, size_t count, uint32_t group_kind, uint32_t group_key, uint32_t tag, uint32_t key);
 
 /* Whether the value under a header is one number of a letter. */
 bool gpmf_is_one_number(gpmf_klv klv, uint8_t letter);
 
-/* The stamp of a group, in microseconds of the camera's clock. */
+/* The stamp of a group, in microseconds of the camera's clock: its STMP, if that is one J number or a date (of which these are the milliseconds as they are), else
+ * its TICK, if that is one L number, times 1000. GPMF_NOTHING where it has neither. Refused with 2, 6, 7 or 12 of STMP; else with 2 or 12 of TICK. */
 gpmf_whole_answer gpmf_stamp_us(const uint8_t *s, size_t s_len, const uint32_t *rows, size_t rows_len, size_t count, uint32_t group_kind, uint32_t group_key);
 
-/* The quaternion of a row of CORI or IORI, scaled by the group's SCAL. */
+/* The quaternion of a row of CORI or IORI, scaled by the group's SCAL if that is one s number, else by 32767. GPMF_NOTHING where the group has no data, or these are
+ * no quaternions. Refused with 2, 6, 12 or 13 (the row lies outside) of the data, with 2 or 12 of SCAL. */
 gpmf_quaternion_answer gpmf_scaled_quaternion(const uint8_t *s, size_t s_len, const uint32_t *rows, size_t rows_len, size_t count, uint32_t group_kind, uint32_t group_key, size_t row);
 
 /* w, negated x, y and z over a scale. */
@@ -417,15 +440,16 @@ gpmf_quaternion gpmf_scaled(int16_t w, int16_t x, int16_t y, int16_t z, double s
 /* 0 less x in 16 bits: -32768 stays. */
 int16_t gpmf_negated(int16_t x);
 
-/* The axes of a group by its MTRX, or where it has none by its ORIN and ORIO. */
+/* The axes of a group by its MTRX, or where it has none by its ORIN and ORIO. GPMF_NOTHING where it has not these, MTRX does not have two or more than
+ * four f or q numbers a row, or ORIN or ORIO is not one text. Refused with 2, 6, 7, 8 or 12 of one of them; with 9 or 10, at place 0, as the calls on axes below. */
 gpmf_axes_answer gpmf_orientation_of_group(const uint8_t *payload, size_t payload_len, const uint32_t *rows, size_t rows_len, size_t count, uint32_t group_kind, uint32_t group_key);
 
 /* Milliseconds for a reading, on average over as many packets as the shortest list has: readings, whether stamped (not 0), stamps in microseconds, durations in
- * milliseconds, whether time is missing in front (not 0). Refused with 11. */
+ * milliseconds, whether time is missing in front (not 0). GPMF_NOTHING where there are no readings. Refused with 11, at place 0. */
 gpmf_real_answer gpmf_get_avg_sample_duration(const uint32_t *counts, size_t counts_len, const uint8_t *has_stamp, size_t has_stamp_len, const uint64_t *stamps, size_t stamps_len,
                                               const double *durations, size_t durations_len, const uint8_t *missing, size_t missing_len);
 
-/* ---- axes */
+/* ---- axes: all refusals have place 0 */
 
 /* The axes that the texts of ORIN and ORIO name. Refused with 9. */
 gpmf_orientations_answer gpmf_orientations_of(const uint8_t *orin, size_t orin_len, const uint8_t *orio, size_t orio_len);
@@ -441,7 +465,7 @@ gpmf_axes_answer gpmf_mtrx_to_orientation(const float *mtrx, size_t mtrx_len);
 
 /* ---- packets of a raw file */
 
-/* The place of the first DEVC from a place on. */
+/* The place of the first DEVC from a place on; GPMF_NOTHING where there is none. */
 gpmf_whole_answer gpmf_find_devc(const uint8_t *file, size_t file_len, size_t from);
 
 /* A cursor over packets, from a place on: 0 for all of them. */
@@ -451,13 +475,14 @@ gpmf_packets gpmf_packets_new(size_t at);
 gpmf_packet_answer gpmf_packets_next(gpmf_packets packets, const uint8_t *file, size_t file_len);
 
 /* The same in a window of a file that is read piece by piece; `more`: bytes of the file follow the window. GPMF_MORE: go on with a window that begins at `place`
- * of this one. */
+ * of this one and has more bytes, and in that with gpmf_packets_new(0). */
 gpmf_packet_answer gpmf_packets_next_in(gpmf_packets packets, const uint8_t *window, size_t window_len, bool more);
 
-/* The next packet of a file, and what its payload is read as (gpmf_parse_metadata). Row places count from the packet's start. */
+/* The next packet of a file, and what its payload is read as (gpmf_parse_metadata); GPMF_NOTHING at the end. Row places count from the packet's start. */
 gpmf_packet_metadata_answer gpmf_next_metadata(gpmf_packets packets, const uint8_t *file, size_t file_len, bool forced, uint32_t *rows, size_t rows_len);
 
-/* The same in a window of a file. GPMF_REFUSED with 1: a packet from packet.start on that is over the limit wherever it ends; go on with `rest`. */
+/* The same in a window of a file, with GPMF_MORE as gpmf_packets_next_in: the new window begins at `place` of this one, and its cursor is gpmf_packets_new(0).
+ * GPMF_REFUSED with 1: a packet from packet.start on that is over the limit wherever it ends; go on in this window with `rest`. */
 gpmf_packet_metadata_answer gpmf_next_metadata_in(gpmf_packets packets, const uint8_t *window, size_t window_len, bool more, bool forced, uint32_t *rows, size_t rows_len);
 
 /* ---- printing: text is laid into out[0 .. out_len) from a place on, and the answer is the place behind it; what does not fit is not laid and the answer is
@@ -473,21 +498,30 @@ size_t gpmf_put_answer(uint8_t *out, size_t out_len, size_t at, gpmf_metadata_an
 /* A line for each of the first `count` rows. */
 size_t gpmf_put_rows(uint8_t *out, size_t out_len, size_t at, const uint32_t *rows, size_t rows_len, size_t count);
 
-/* A packet of a take: its line, its listing, and where it is refused the listing of what stands before the place; with `whole`, nothing of a refused one. */
+/* A packet of a take: its line, its listing, and where it is refused the listing of what stands before the place; with `whole`, nothing of a refused one. The rows
+ * of what is listed go into `rows`: of a refused packet those of its front, and with `whole` none, so that `rows` stay as they were. */
 gpmf_taken gpmf_put_packet(const uint8_t *payload, size_t payload_len, uint64_t number, uint64_t place, bool whole, uint32_t *rows, size_t rows_len, uint8_t *out, size_t out_len,
                            size_t at);
 
-/* A packet of more bytes than are held: its line, and its refusal with 1. */
+/* A packet of more bytes than are held: its line, and its refusal with 1; with `whole`, nothing. */
 size_t gpmf_put_long_packet(uint64_t number, uint64_t place, uint64_t bytes, bool whole, uint8_t *out, size_t out_len, size_t at);
 
 /* The last line of a take: its counts. */
 size_t gpmf_put_totals(uint8_t *out, size_t out_len, size_t at, uint64_t packets, uint64_t read, uint64_t refused);
 
-/* A byte; bytes; a number in decimal; its last `count` digits in hex; a signed number in decimal. */
+/* A byte. */
 size_t gpmf_put(uint8_t *out, size_t out_len, size_t at, uint8_t b);
+
+/* Bytes. */
 size_t gpmf_put_bytes(uint8_t *out, size_t out_len, size_t at, const uint8_t *text, size_t text_len);
+
+/* A number in decimal. */
 size_t gpmf_put_decimal(uint8_t *out, size_t out_len, size_t at, uint64_t n);
+
+/* The last `count` digits of a number in hex. */
 size_t gpmf_put_hex(uint8_t *out, size_t out_len, size_t at, uint64_t n, size_t count);
+
+/* A signed number in decimal. */
 size_t gpmf_put_signed(uint8_t *out, size_t out_len, size_t at, int64_t n);
 
 /* ---- what is read out of a line */
@@ -495,8 +529,10 @@ size_t gpmf_put_signed(uint8_t *out, size_t out_len, size_t at, int64_t n);
 /* How many pieces a text falls into, each ended by a byte or by the end. */
 size_t gpmf_pieces(const uint8_t *s, size_t s_len, uint8_t b);
 
-/* The number in decimal digits, and in small hex digits; GPMF_NOTHING where there is none of 64 bits. */
+/* The number in decimal digits; GPMF_NOTHING where there is none of 64 bits. */
 gpmf_whole_answer gpmf_decimal_number(const uint8_t *s, size_t s_len);
+
+/* The number in small hex digits; GPMF_NOTHING where there is none of 64 bits. */
 gpmf_whole_answer gpmf_hex_number(const uint8_t *s, size_t s_len);
 
 /* The bytes in small hex digits, laid at the front of out; GPMF_NOTHING where it is not hex, GPMF_MORE where they have no room. */

@@ -186,7 +186,7 @@ static gpmf_number read_as(gpmf_element_answer a) {
     return n;
 }
 static bool element_refused(gpmf_element_answer a, uint32_t number, size_t place) {
-    return a.kind == GPMF_REFUSED && a.number == number && a.place == place && is_unsigned(a.element, 0);
+    return a.kind == GPMF_REFUSED && a.number == number && a.place == place && is_signed(a.element, 0);
 }
 
 static bool shape_is(gpmf_shape_answer a, uint32_t value_kind, size_t rows, size_t columns) {
@@ -209,7 +209,7 @@ static bool rows_are(gpmf_metadata_answer a, size_t rows, size_t headers) {
 static bool rows_refused(gpmf_metadata_answer a, uint32_t number, size_t place) {
     return a.kind == GPMF_REFUSED && a.number == number && a.place == place && a.rows == 0 && a.headers == 0;
 }
-static bool no_rows_told(gpmf_metadata_answer a) { return a.kind == GPMF_NOTHING && a.number == 0 && a.place == 0 && a.rows == 0 && a.headers == 0; }
+static bool no_rows_told(gpmf_metadata_answer a) { return rows_refused(a, 0, 0); }
 
 static gpmf_row row(uint32_t place, uint32_t group_kind, uint32_t group_key, uint32_t tag, uint32_t key, uint32_t shape, uint32_t type_place, uint32_t depth) {
     gpmf_row made;
@@ -355,7 +355,7 @@ static void the_reading(void) {
 
     /* 11 outermost items, 57 within them: a header for each when forced, and two for those within when not */
     CHECK(rows_are(gpmf_parse_metadata(packet.bytes, packet.size, true, forced, LENT), ROWS, 68));
-    CHECK(row_is(gpmf_row_at(forced, LENT, 42), row(864, 0, 0, 1, MWET, shape_of('B', 3, 4), GPMF_NO_TYPE, 1)));
+    CHECK(row_is(gpmf_row_at(forced, LENT, 42), row(864, GPMF_GROUP_CALLER, 0, GPMF_TAG_DATA, MWET, shape_of('B', 3, 4), GPMF_NO_TYPE, 1)));
 
     CHECK(rows_refused(gpmf_parse_metadata(damaged.bytes, damaged.size, false, untouched, LENT), GPMF_PAST_END, 804));
     CHECK(kept(untouched, 0, LENT));
@@ -410,8 +410,8 @@ static void the_rows(void) {
     CHECK(gpmf_room(0) == 0 && gpmf_room(7) == 0 && gpmf_room(8) == 1 && gpmf_room(17) == 2);
     CHECK(gpmf_room(32767) == 4095 && gpmf_room(32768) == 4096 && gpmf_room(32776) == 4096 && gpmf_room(SIZE_MAX) == 4096);
 
-    CHECK(row_is(gpmf_row_at(rows, LENT, 42), row(864, 1, MWET, 1, MWET, shape_of('B', 3, 4), GPMF_NO_TYPE, 1)));
-    CHECK(row_is(gpmf_row_at(rows, LENT, 34), row(700, 1, FACE, 0, FACE, shape_of('?', 20, 1), 684, 1)));
+    CHECK(row_is(gpmf_row_at(rows, LENT, 42), row(864, GPMF_GROUP_BY_KEY, MWET, GPMF_TAG_DATA, MWET, shape_of('B', 3, 4), GPMF_NO_TYPE, 1)));
+    CHECK(row_is(gpmf_row_at(rows, LENT, 34), row(700, GPMF_GROUP_BY_KEY, FACE, GPMF_TAG_OTHER, FACE, shape_of('?', 20, 1), 684, 1)));
     CHECK(row_nothing(gpmf_row_at(rows, LENT, 60)) && row_nothing(gpmf_row_at(rows, LENT, SIZE_MAX)) && row_nothing(gpmf_row_at(NONE, 0)));
 
     CHECK(!gpmf_put_row(numbers, 17, 2, other) && !gpmf_put_row(numbers, 17, SIZE_MAX, other) && !gpmf_put_row(NULL, 0, 0, other));
@@ -522,22 +522,6 @@ static void parts(void) {
     CHECK(part_refused(gpmf_text_at(NONE, 0, GPMF_NO_TYPE, 0), GPMF_NO_ITEM, 0));
 }
 
-/* Values of a header, a payload and a TYPE text that a caller holds apart. */
-static void values_apart(void) {
-    const uint8_t *wet = packet.bytes + 872;
-    gpmf_klv header = klv(MWET, 'B', 3, 4), face = klv(FACE, '?', 8, 1);
-    CHECK(is_unsigned(read_as(gpmf_element_of(7, header, wet, 12, NONE, 2, 0)), 1));
-    CHECK(is_unsigned(read_as(gpmf_element_of(7, header, wet, 12, NONE, 0, 2)), 59));
-    CHECK(element_refused(gpmf_element_of(7, header, wet, 11, NONE, 0, 0), GPMF_TOO_FEW, 7));
-    CHECK(element_refused(gpmf_element_of(7, header, wet, 12, NONE, 4, 0), GPMF_OUTSIDE, 7));
-    CHECK(is_single(read_as(gpmf_element_of(0, face, TEXT("\x00\x00\x00\x07\x3f\xc0\x00\x00"), TEXT("Lf"), 0, 1)), 1.5f));
-    CHECK(shape_is(gpmf_shape_of(7, header, wet, 12, NONE), GPMF_VALUE_VECTOR, 4, 3));
-    CHECK(shape_is(gpmf_shape_of(7, face, NONE, NONE), GPMF_VALUE_UNKNOWN, 0, 0));
-    CHECK(shape_refused(gpmf_shape_of(7, header, NONE, NONE), GPMF_TOO_FEW, 7));
-    CHECK(whole_is(gpmf_columns_of(7, klv(SCAL, 'c', 3, 2), TEXT("degm\x00\x00"), NONE, 1), 1));
-    CHECK(whole_refused(gpmf_columns_of(7, header, wet, 12, NONE, 4), GPMF_OUTSIDE, 7));
-}
-
 /* ---- items */
 
 static void items(void) {
@@ -556,7 +540,11 @@ static void items(void) {
     CHECK(!gpmf_is_one_text(klv(0, 'c', 2, 2)) && !gpmf_is_one_text(klv(0, 'f', 4, 1)));
     CHECK(gpmf_is_type_text(klv(TYPE, 'c', 1, 5)) && !gpmf_is_type_text(klv(MWET, 'c', 1, 5)) && !gpmf_is_type_text(klv(TYPE, 'B', 1, 5)));
 
-    CHECK(gpmf_tag_id(MWET) == 1 && gpmf_tag_id(SCAL) == 4 && gpmf_tag_id(GPMF_KEY('O', 'R', 'I', 'O')) == 10 && gpmf_tag_id(STRM) == 0);
+    CHECK(gpmf_tag_id(MWET) == GPMF_TAG_DATA && gpmf_tag_id(GPMF_KEY('U', 'N', 'I', 'T')) == GPMF_TAG_UNIT && gpmf_tag_id(SCAL) == GPMF_TAG_SCALE);
+    CHECK(gpmf_tag_id(GPMF_KEY('M', 'T', 'R', 'X')) == GPMF_TAG_MATRIX && gpmf_tag_id(GPMF_KEY('S', 'T', 'M', 'P')) == GPMF_TAG_TIMESTAMP_US);
+    CHECK(gpmf_tag_id(GPMF_KEY('S', 'T', 'N', 'M')) == GPMF_TAG_NAME && gpmf_tag_id(GPMF_KEY('T', 'M', 'P', 'C')) == GPMF_TAG_TMPC);
+    CHECK(gpmf_tag_id(GPMF_KEY('T', 'S', 'M', 'P')) == GPMF_TAG_TSMP && gpmf_tag_id(GPMF_KEY('O', 'R', 'I', 'N')) == GPMF_TAG_ORIN);
+    CHECK(gpmf_tag_id(GPMF_KEY('O', 'R', 'I', 'O')) == GPMF_TAG_ORIO && gpmf_tag_id(STRM) == GPMF_TAG_OTHER);
     CHECK(gpmf_group_from_key(MWET).number == 10 && gpmf_group_from_key(MWET).key == MWET);
     CHECK(gpmf_group_from_key(FACE).number == 0 && gpmf_group_from_key(FACE).key == FACE);
     CHECK(gpmf_big_endian(TEXT("MWET")) == MWET && gpmf_big_endian(TEXT("\x01\x02")) == 258 && gpmf_big_endian(NONE) == 0);
@@ -664,6 +652,42 @@ static void group_axes(void) {
     CHECK(axes_nothing(gpmf_orientation_of_group(NONE, NONE, 0, 1, ACCL)));
     CHECK(axes_refused(gpmf_orientation_of_group(packet.bytes, packet.size, rows, LENT, 61, 1, ACCL), GPMF_NO_ROOM));
     CHECK(axes_refused(gpmf_orientation_of_group(too_long(), GPMF_MOST_BYTES + 1, rows, LENT, 61, 1, ACCL), GPMF_TOO_LONG));
+}
+
+/* An item in front of those that are asked for, so that their place is not 0. */
+#define FIRST "DVIDL\x04\x00\x01\x00\x00\x00\x01"
+
+/* What a payload's own rows lead to, for the caller's group: of at most three items. */
+static gpmf_whole_answer stamp_of(const uint8_t *s, size_t size) {
+    uint32_t *numbers = lend(24);
+    size_t count = gpmf_parse_metadata(s, size, false, numbers, 24).rows;
+    return gpmf_stamp_us(s, size, numbers, 24, count, GPMF_GROUP_CALLER, 0);
+}
+static gpmf_quaternion_answer quaternion_of(const uint8_t *s, size_t size) {
+    uint32_t *numbers = lend(24);
+    size_t count = gpmf_parse_metadata(s, size, false, numbers, 24).rows;
+    return gpmf_scaled_quaternion(s, size, numbers, 24, count, GPMF_GROUP_CALLER, 0, 0);
+}
+static gpmf_axes_answer axes_of(const uint8_t *s, size_t size) {
+    uint32_t *numbers = lend(24);
+    size_t count = gpmf_parse_metadata(s, size, false, numbers, 24).rows;
+    return gpmf_orientation_of_group(s, size, numbers, 24, count, GPMF_GROUP_CALLER, 0);
+}
+
+/* What is refused of an item has the place of its row, and what is refused of axes has none. */
+static void group_refusals(void) {
+    gpmf_quaternion_answer few = quaternion_of(TEXT(FIRST "CORIs\x02\x00\x01" "12\x00\x00"));
+    gpmf_axes_answer unreadable = axes_of(TEXT(FIRST "ORINc\x02\x00\x02" "ab\xff" "c" "ORIOc\x01\x00\x03" "XYZ\x00"));
+    CHECK(whole_is(stamp_of(TEXT(FIRST "STMPU\x10\x00\x01" "240229120000.000")), UINT64_C(1709208000000)));
+    CHECK(whole_refused(stamp_of(TEXT(FIRST "STMPU\x10\x00\x01" "24022912000x.000")), GPMF_UNREADABLE, 12));
+    CHECK(whole_refused(stamp_of(TEXT(FIRST "STMPU\x08\x00\x01" "24022912")), GPMF_TOO_FEW, 12));
+    CHECK(whole_is(stamp_of(TEXT(FIRST "STMPJ\x01\x00\x01" "1\x00\x00\x00" "TICKL\x04\x00\x01\x00\x00\x00\x05")), 5000));
+    CHECK(whole_nothing(stamp_of(TEXT(FIRST "TICKL\x04\x00\x02\x00\x00\x00\x05\x00\x00\x00\x06"))));
+    CHECK(few.kind == GPMF_REFUSED && few.number == GPMF_TOO_FEW && few.place == 12 && quaternion_is(few.quaternion, 0, 0, 0, 0));
+    CHECK(unreadable.kind == GPMF_REFUSED && unreadable.number == GPMF_UNREADABLE && unreadable.place == 12 && same_axes(unreadable.axes, axes(0, 0, 0)));
+    CHECK(axes_refused(axes_of(TEXT(FIRST "ORINc\x01\x00\x04" "XYZA" "ORIOc\x01\x00\x03" "XYZ\x00")), GPMF_BAD_AXES));
+    CHECK(axes_refused(axes_of(TEXT(FIRST "MTRXf\x08\x00\x01" "12345678")), GPMF_BAD_MATRIX));
+    CHECK(axes_nothing(axes_of(TEXT(FIRST "MTRXf\x0c\x00\x01" "123456789abc"))) && axes_nothing(axes_of(TEXT(FIRST "ORINc\x01\x00\x03" "XYZ\x00"))));
 }
 
 static void averages(void) {
@@ -837,6 +861,8 @@ static void packets_laid(void) {
     gpmf_taken full = gpmf_put_packet(NONE, 1, 8, false, NULL, 0, NULL, 0, 0);
     CHECK(left_out.end == 7 && !left_out.accepted && kept(numbers, 0, 8) && kept_bytes(out, 0, 128));
     CHECK(full.end == GPMF_FULL && full.accepted);
+    full = gpmf_put_packet(TEXT("ABCDB\x01\x00\x01" "1\0\0\0" "ABCDB\x06\x00\x01"), 1, 8, false, numbers, 8, NULL, 0, 0);
+    CHECK(full.end == GPMF_FULL && !full.accepted && row_is(gpmf_row_at(numbers, 8, 0), row(0, 0, 0, 0, GPMF_KEY('A', 'B', 'C', 'D'), shape_of('B', 1, 1), GPMF_NO_TYPE, 0)));
     CHECK(gpmf_put_long_packet(3, 100, 2000000, true, out, 128, 9) == 9 && kept_bytes(out, 0, 128));
     CHECK(gpmf_put_long_packet(3, 100, 2000000, false, out, 128, 0) == sizeof expected - 1 && lies(out, 0, expected));
     CHECK(gpmf_put_long_packet(3, 100, 2000000, false, NULL, 0, 0) == GPMF_FULL);
@@ -872,7 +898,6 @@ int main(int count, char **words) {
     elements();
     shapes();
     parts();
-    values_apart();
     items();
     numbers_at_places();
     numbers();
@@ -881,6 +906,7 @@ int main(int count, char **words) {
     group_items();
     group_quaternions();
     group_axes();
+    group_refusals();
     averages();
     orientations();
     cuts();

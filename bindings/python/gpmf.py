@@ -1,4 +1,4 @@
-"""A proved reader of GPMF, the metadata of action cameras, for Python 3.9 and later on x86-64.
+"""A proved reader of GPMF, the metadata of action cameras, for CPython 3.9 and later with its global lock, on x86-64.
 
 Which readings of a damaged take had a wet microphone:
 
@@ -8,17 +8,20 @@ Which readings of a damaged take had a wet microphone:
     ...     row = reading.lookup("MWET", "MWET")  # the last row of a group and a key
     ...     print(packet.number, packet.refusal or "read", row and reading.value(row))
     1 read [[0, 0, 95], [0, 0, 95], [0, 0, 96], [0, 0, 99]]
-    2 refused with 2 at 984: an item's payload runs past the end of its level [[0, 0, 59], [0, 0, 64], [1, 0, 59], [1, 0, 64]]
+    2 refused with 2 at 984: an item's payload runs past the end of its level (for a value read: of the payload given) [[0, 0, 59], [0, 0, 64], [1, 0, 59], [1, 0, 64]]
     3 refused with 3 at 752: the search for a container's or a payload's last item meets 1 to 7 bytes, too few for a header None
     4 read [[1, 1, 73], [1, 0, 68], [0, 0, 66], [0, 0, 70]]
-    5 refused with 2 at 892: an item's payload runs past the end of its level [[0, 0, 94], [0, 0, 91], [0, 0, 96], [0, 0, 90]]
+    5 refused with 2 at 892: an item's payload runs past the end of its level (for a value read: of the payload given) [[0, 0, 94], [0, 0, 91], [0, 0, 96], [0, 0, 90]]
 
 What reads is the library, in which each function is proved to answer what its definition says; this module hands over bytes and numbers. The library's folder or
 file is named by GPMF_LIB in the environment; else it lies beside this module, or in target/lib of the repository, where ./gpmf lib builds it.
 
 A call that is refused raises Refusal, where the library has nothing it is None, and numbers that no call of the library takes raise ValueError, TypeError or
 OverflowError. Bytes are taken where they lie, in bytes, a bytearray or a memoryview. A key is a text: its four letters, or, where one of them cannot be
-seen, x and eight hex digits. A group is a key, or None for the caller's own. A place is counted in bytes from the start of the payload or file."""
+seen, x and eight hex digits. A group is a key, or None for the caller's own. A place is counted in bytes from the start of the payload or file.
+
+The module is for CPython as it usually comes, with its global lock: the library is called under that lock, so that no other thread changes memory while it is lent. A
+build without the lock does not give that, and nor do other interpreters."""
 from __future__ import annotations
 
 import array
@@ -50,10 +53,11 @@ NO_TYPE = 4294967295  # the place of a TYPE where none is in force
 FULL = 2**64 - 1  # the place behind text that did not fit its buffer
 
 REFUSED, IS, NOTHING, MORE = range(4)  # the kinds of an answer
+GROUP_CALLER, GROUP_BY_KEY = range(2)  # the kinds of a group
 
 MEANINGS: Dict[int, str] = {
     1: "the payload is over the limit of 1,048,576 bytes",
-    2: "an item's payload runs past the end of its level",
+    2: "an item's payload runs past the end of its level (for a value read: of the payload given)",
     3: "the search for a container's or a payload's last item meets 1 to 7 bytes, too few for a header",
     4: "a container with a payload stands at depth 16; the outermost items have depth 0",
     5: "a row, written or claimed, does not fit the room: the lent numbers / 8, rounded down, and at most 4,096 rows",
@@ -199,7 +203,6 @@ class gpmf_packet_metadata_answer(ctypes.Structure):
 _MEMORY = (c_void_p, c_size_t)
 _OUT = (*_MEMORY, c_size_t)  # and a place in it
 _GROUP = (*_MEMORY, *_MEMORY, c_size_t, c_uint32, c_uint32)  # a payload, rows, their count, and a group
-_VALUE = (c_size_t, gpmf_klv, *_MEMORY, *_MEMORY)  # a place, a header, its payload and a TYPE text
 _CALLS: Dict[str, Tuple[Any, ...]] = {
     "gpmf_parse_metadata": (gpmf_metadata_answer, *_MEMORY, c_bool, *_MEMORY),
     "gpmf_room": (c_size_t, c_size_t),
@@ -214,9 +217,6 @@ _CALLS: Dict[str, Tuple[Any, ...]] = {
     "gpmf_klv_at": (gpmf_item_answer, *_MEMORY, c_size_t, c_size_t),
     "gpmf_bytes_at": (gpmf_part_answer, *_MEMORY, c_size_t, c_size_t),
     "gpmf_text_at": (gpmf_part_answer, *_MEMORY, c_size_t, c_size_t, c_size_t),
-    "gpmf_element_of": (gpmf_element_answer, *_VALUE, c_size_t, c_size_t),
-    "gpmf_shape_of": (gpmf_shape_answer, *_VALUE),
-    "gpmf_columns_of": (gpmf_whole_answer, *_VALUE, c_size_t),
     "gpmf_cursor_new": (gpmf_cursor, c_size_t),
     "gpmf_parse_header": (gpmf_item_answer, gpmf_cursor, *_MEMORY),
     "gpmf_data_len": (c_size_t, gpmf_klv),
@@ -501,22 +501,23 @@ def key_number(text: str) -> int:
 
 def group_numbers(group: Optional[str]) -> Tuple[int, int]:
     """The kind and the key of a group as numbers: of a key, or with None of the caller's own."""
-    return (0, 0) if group is None else (1, key_number(group))
+    return (GROUP_CALLER, 0) if group is None else (GROUP_BY_KEY, key_number(group))
 
 
 class Tag(enum.IntEnum):
-    """What an item is for, by its key; keys in no table of tags have 0."""
+    """What an item is for, by its key."""
 
+    OTHER = 0  # all other keys: known by the key alone
     DATA = 1  # the readings, under a key such as MWET, AALP, ACCL or GPS5
     UNIT = 2  # SIUN, UNIT
     MATRIX = 3  # MTRX
     SCALE = 4  # SCAL: what the readings are divided by
-    STAMP = 5  # STMP: a time in microseconds
+    TIMESTAMP_US = 5  # STMP: a time in microseconds
     NAME = 6  # STNM of a stream, DVNM of a device
-    TEMPERATURE = 7  # TMPC
-    COUNT = 8  # TSMP: the samples so far
-    AXES_IN = 9  # ORIN: the order of the axes that come in
-    AXES_OUT = 10  # ORIO: the order in which they are wanted
+    TMPC = 7  # a temperature
+    TSMP = 8  # the samples so far
+    ORIN = 9  # the order of the axes that come in
+    ORIO = 10  # the order in which they are wanted
 
 
 class Item(NamedTuple):
@@ -634,6 +635,8 @@ class Reading(Sequence[Row]):
     def lookup(self, group: Optional[str], tag_or_key: Union[int, str]) -> Optional[Row]:
         """The last row of a group and a tag, or of a group and a key. Keys that share a tag are told apart."""
         if not isinstance(tag_or_key, str):
+            if Tag(tag_or_key) is Tag.OTHER:
+                raise ValueError("what has no tag is looked for by its key")
             index = lookup(self.numbers, len(self), *group_numbers(group), Tag(tag_or_key), 0)
             return None if index is None else self[index]
         tag, key = tag_id(tag_or_key), key_number(tag_or_key)
@@ -752,36 +755,34 @@ class Shape(NamedTuple):
 
 
 def element(payload: Bytes, item: ItemOrPlace, row: int, column: int, type_place: Optional[int] = None) -> Number:
-    """The element at a row and a column of an item's value. Refused with 1, 2, 6, 7, 8, 12 or 13, at the item's place."""
+    """The element at a row and a column of an item's value. Refused with 1, at place 0, or with 2, 6, 7, 8, 12 or 13, at the item's place. Here and in the calls below,
+    a type_place of NO_TYPE is none."""
     answer = _call("gpmf_element", _bytes(payload), *_place_and_type(item, type_place), _size(row), _size(column))
     _is(answer)
     return _number(answer.element)
 
 
 def shape(payload: Bytes, item: ItemOrPlace, type_place: Optional[int] = None) -> Shape:
-    """What an item's value is called, its rows, and the columns of its first row. Refused as an element is."""
-    return _shape(_call("gpmf_shape_at", _bytes(payload), *_place_and_type(item, type_place)))
-
-
-def _shape(answer: gpmf_shape_answer) -> Shape:
+    """What an item's value is called, its rows, and the columns of its first row. Refused as an element is, but for 13."""
+    answer = _call("gpmf_shape_at", _bytes(payload), *_place_and_type(item, type_place))
     _is(answer)
     return Shape(Kind(answer.value_kind), answer.rows, answer.columns)
 
 
 def columns(payload: Bytes, item: ItemOrPlace, row: int, type_place: Optional[int] = None) -> int:
-    """The columns of a row of an item's value: of a text, its bytes. Refused as an element is."""
+    """The columns of a row of an item's value: of a text, its bytes. Refused as an element is; with 13 where the row lies outside."""
     return _whole(_call("gpmf_columns_at", _bytes(payload), *_place_and_type(item, type_place), _size(row)))
 
 
 def klv_at(payload: Bytes, item: ItemOrPlace, type_place: Optional[int] = None) -> Item:
-    """The header of an item that has a value. Refused with 1, 2 or 12."""
+    """The header of an item that has a value. Refused with 1, at place 0, or with 2 or 12, at the item's place."""
     answer = _call("gpmf_klv_at", _bytes(payload), *_place_and_type(item, type_place))
     _is(answer)
     return _item(answer)
 
 
 def bytes_at(payload: Bytes, item: ItemOrPlace, type_place: Optional[int] = None) -> memoryview:
-    """An item's own bytes, those behind its header, as a part of the payload. Refused with 1, 2 or 12."""
+    """An item's own bytes, those behind its header, as a part of the payload. Refused as klv_at."""
     return _part(payload, _call("gpmf_bytes_at", _bytes(payload), *_place_and_type(item, type_place)))
 
 
@@ -793,29 +794,6 @@ def text_at(payload: Bytes, item: ItemOrPlace, row: int, type_place: Optional[in
 def _part(payload: Bytes, answer: gpmf_part_answer) -> memoryview:
     _is(answer)
     return memoryview(payload)[answer.start : answer.start + answer.length]
-
-
-def _of_item(item: Union[Item, Row], data: Bytes, type_text: Bytes) -> Tuple[Any, ...]:
-    """The arguments that the calls on an item's own bytes begin with."""
-    klv = _klv(item)
-    return _size(item.place), klv, _bytes(data), _bytes(type_text)
-
-
-def element_of(item: Union[Item, Row], data: Bytes, type_text: Bytes, row: int, column: int) -> Number:
-    """The element of an item whose own bytes are given, those behind its header, with a TYPE text without its trailing zeros, empty for none."""
-    answer = _call("gpmf_element_of", *_of_item(item, data, type_text), _size(row), _size(column))
-    _is(answer)
-    return _number(answer.element)
-
-
-def shape_of(item: Union[Item, Row], data: Bytes, type_text: Bytes) -> Shape:
-    """The shape of such an item's value."""
-    return _shape(_call("gpmf_shape_of", *_of_item(item, data, type_text)))
-
-
-def columns_of(item: Union[Item, Row], data: Bytes, type_text: Bytes, row: int) -> int:
-    """The columns of a row of such an item's value."""
-    return _whole(_call("gpmf_columns_of", *_of_item(item, data, type_text), _size(row)))
 
 
 def elements(payload: Bytes, item: ItemOrPlace, type_place: Optional[int] = None) -> List[List[Number]]:
@@ -1073,7 +1051,7 @@ def packets_next(file: Bytes, at: int) -> Optional[Cut]:
 
 def packets_next_in(window: Bytes, at: int, more: bool) -> Union[Cut, More, None]:
     """The same in a window of a file that is read piece by piece; more: bytes of the file follow the window. After More, go on with a window that begins at its
-    place of this one."""
+    place of this one, and in that at 0."""
     answer = _call("gpmf_packets_next_in", _C.gpmf_packets_new(_size(at)), _bytes(window), _flag(more))
     if answer.kind == MORE:
         return More(answer.place)
@@ -1194,7 +1172,7 @@ def element_at(payload: Bytes, at: int, letter: str) -> Number:
 
 
 def exact_at(payload: Bytes, at: int) -> fractions.Fraction:
-    """The exact form of the Q number at a place."""
+    """The exact form of the Q number at a place; 0 where its bytes are not all there."""
     return _fraction(_call("gpmf_exact_at", _bytes(payload), _size(at)))
 
 
@@ -1238,7 +1216,8 @@ def are_utf8(texts: Bytes, size: int) -> bool:
 
 
 def parse_utcdate(text: Bytes) -> int:
-    """Milliseconds from the start of 1970 to the date yymmddhhmmss.sss. Refused with 6 under 16 bytes, with 7 where it is not readable."""
+    """Milliseconds from the start of 1970 to the date yymmddhhmmss.sss, 0 for a date or a time that is impossible. Refused with 6 under 16 bytes, with 7 where it is
+    not readable."""
     return _whole(_call("gpmf_parse_utcdate", _bytes(text)))
 
 
@@ -1260,18 +1239,21 @@ def _of_group(payload: Bytes, rows: Numbers, count: int, group_kind: int, group_
 
 
 def tagged_item(payload: Bytes, rows: Numbers, count: int, group_kind: int, group_key: int, tag: int, key: int) -> Optional[Item]:
-    """The item of a group and a tag; with tag 0, of a group and a key. Refused with 1, with 5 as lookup, with 2 or 12 where the row's place holds no such item."""
+    """The item of a group and a tag; with tag 0, of a group and a key. None where there is no such row. Refused with 1, at place 0, with 5 as lookup, or with 2 or 12,
+    at the row's place, where that holds no such item."""
     group = _of_group(payload, rows, count, group_kind, group_key)
     return _item_or_none(_call("gpmf_tagged_item", *group, _unsigned(tag, 32), _unsigned(key, 32)))
 
 
 def stamp_us(payload: Bytes, rows: Numbers, count: int, group_kind: int, group_key: int) -> Optional[int]:
-    """The stamp of a group, in microseconds of the camera's clock."""
+    """The stamp of a group, in microseconds of the camera's clock: its STMP, if that is one J number or a date (of which these are the milliseconds as they are), else
+    its TICK, if that is one L number, times 1000. Refused as tagged_item; with 6 or 7 too, at the place of STMP, for a date."""
     return _whole_or_none(_call("gpmf_stamp_us", *_of_group(payload, rows, count, group_kind, group_key)))
 
 
 def scaled_quaternion(payload: Bytes, rows: Numbers, count: int, group_kind: int, group_key: int, row: int) -> Optional[Quaternion]:
-    """The quaternion of a row of CORI or IORI, scaled by the group's SCAL."""
+    """The quaternion of a row of CORI or IORI, scaled by the group's SCAL if that is one s number, else by 32767; None where the group has no data, or these are no
+    quaternions. Refused as tagged_item, of the data or of SCAL; with 6 or 13 too, at the place of the data."""
     answer = _call("gpmf_scaled_quaternion", *_of_group(payload, rows, count, group_kind, group_key), _size(row))
     return _quaternion(answer.quaternion) if _is(answer) else None
 
@@ -1291,7 +1273,8 @@ def negated(x: int) -> int:
 
 
 def orientation_of_group(payload: Bytes, rows: Numbers, count: int, group_kind: int, group_key: int) -> Optional[str]:
-    """The axes of a group by its MTRX, or where it has none by its ORIN and ORIO."""
+    """The axes of a group by its MTRX, or where it has none by its ORIN and ORIO; None where it has not these, or their types are others. Refused with 1, with 5 as
+    lookup, with 2, 6, 7, 8 or 12 at the place of one of them, and with 9 or 10 as the calls on axes."""
     return _axes_or_none(_call("gpmf_orientation_of_group", *_of_group(payload, rows, count, group_kind, group_key)))
 
 
@@ -1299,13 +1282,13 @@ def get_avg_sample_duration(
     counts: Sequence[int], has_stamp: Sequence[bool], stamps: Sequence[int], durations: Sequence[float], missing: Sequence[bool]
 ) -> Optional[float]:
     """Milliseconds for a reading, on average over as many packets as the shortest list has: readings, whether stamped, stamps in microseconds, durations in
-    milliseconds, whether time is missing in front. Refused with 11."""
+    milliseconds, whether time is missing in front. None where there are no readings. Refused with 11."""
     lists = _copied("I", counts), _copied("B", map(_flag, has_stamp)), _copied("Q", stamps), _copied("d", durations), _copied("B", map(_flag, missing))
     answer = _call("gpmf_get_avg_sample_duration", *lists)
     return float(answer.value) if _is(answer) else None
 
 
-# ---- axes: three letters, X, Y or Z, small for the other direction
+# ---- axes: three characters; a camera's are X, Y and Z, small for the other direction
 
 
 def orientations_of(orin: Bytes, orio: Bytes) -> Tuple[str, str]:
@@ -1390,7 +1373,8 @@ def put_rows(out: Union[bytearray, memoryview], at: int, rows: Numbers, count: i
 
 
 def put_packet(payload: Bytes, number: int, place: int, whole: bool, rows: Numbers, out: Union[bytearray, memoryview], at: int) -> Taken:
-    """A packet of a take: its line, its listing, and where it is refused the listing of what stands before the place; with whole, nothing of a refused one."""
+    """A packet of a take: its line, its listing, and where it is refused the listing of what stands before the place; with whole, nothing of a refused one.
+    The rows of what is listed go into the lent numbers: of a refused packet those of its front, and with whole none."""
     taken = _call("gpmf_put_packet", _bytes(payload), _size(number), _size(place), _flag(whole), _numbers(rows, written=True), *_out(out, at))
     return Taken(taken.end, taken.accepted)
 

@@ -25,7 +25,6 @@ def fitting():
     return {
         "aligned_data_len": (ROW,), "are_utf8": (b"abcd", 2), "big_endian": (b"abc",), "columns": (PAYLOAD, ROW.place, 0, gpmf.NO_TYPE), "data_len": (ROW,),
         "klv_at": (PAYLOAD, ROW.place, gpmf.NO_TYPE), "bytes_at": (PAYLOAD, ROW.place, gpmf.NO_TYPE), "text_at": (PAYLOAD, READING.lookup("MWET", "STNM").place, 0, gpmf.NO_TYPE),
-        "columns_of": (ROW, b"0123456789ab", b"", 0), "element_of": (ROW, b"0123456789ab", b"", 0, 0), "shape_of": (ROW, b"0123456789ab", b""),
         "decimal_number": (b"12",), "double_bits": (1.5,), "element": (PAYLOAD, ROW.place, 0, 0, gpmf.NO_TYPE), "element_at": (PAYLOAD, 0, "L"),
         "elements": (PAYLOAD, ROW.place, gpmf.NO_TYPE), "exact_at": (PAYLOAD, 0), "find_devc": (FILE, 0), "get_avg_sample_duration": ([1], [False], [1], [1.0], [False]),
         "get_last_klv": (PAYLOAD,), "group_from_key": ("MWET",), "group_numbers": ("MWET",), "hex_number": (b"ff",), "is_one_number": (ROW, "B"), "is_one_text": (ROW,),

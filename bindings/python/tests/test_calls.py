@@ -128,21 +128,6 @@ class Values(Refusing):
             self.refused(2, 28, call, payload[:-2], 28, *more)
             self.refused(12, 40, call, payload, 40, *more)
 
-    def test_an_items_own_bytes(self):
-        reading = gpmf.rows(raw("packet"))
-        for row in reading:
-            data = gpmf.bytes_at(reading.payload, row)
-            text = b"" if row.type_place is None else gpmf.value(reading.payload, row.type_place).encode()
-            has = reading.shape(row)
-            self.assertEqual(gpmf.shape_of(row, data, text), has)
-            self.assertEqual([gpmf.columns_of(row, data, text, n) for n in range(has.rows)], [gpmf.columns(reading.payload, row, n) for n in range(has.rows)])
-            self.assertEqual([gpmf.element_of(row, data, text, 0, column) for column in range(has.columns)], reading.elements(row)[0])
-        wide = gpmf.Item("ABCD", "S", 4, 2, 77)
-        self.refused(6, 77, gpmf.shape_of, wide, bytes(7), b"")
-        self.refused(13, 77, gpmf.columns_of, wide, bytes(8), b"", 2)
-        self.refused(13, 77, gpmf.element_of, wide, bytes(8), b"", 1, 2)
-        self.assertEqual(gpmf.element_of(gpmf.Item("ABCD", "?", 3, 1), b"\1\2\3", b"BS", 0, 1), 0x203)
-
     def test_refusals(self):
         for call, more in (gpmf.shape, ()), (gpmf.value, ()), (gpmf.elements, ()), (gpmf.columns, (0,)), (gpmf.element, (0, 0)):
             self.refused(1, 0, call, bytes(gpmf.MOST_BYTES + 1), 0, *more)

@@ -71,16 +71,17 @@ class Declarations(unittest.TestCase):
                 self.assertEqual((function.restype, *function.argtypes), (answer, *arguments))
 
     def test_numbers(self):
-        limits = defined("MOST_BYTES|MOST_ROWS|ROW_WIDTH|NO_TYPE|REFUSED|IS|NOTHING|MORE")
+        limits = defined("MOST_BYTES|MOST_ROWS|ROW_WIDTH|NO_TYPE|REFUSED|IS|NOTHING|MORE|GROUP_CALLER|GROUP_BY_KEY")
         self.assertEqual(limits, {name: getattr(gpmf, name) for name in limits})
-        self.assertEqual(len(limits), 8)
+        self.assertEqual(len(limits), 10)
         self.assertEqual(gpmf.FULL, ctypes.c_size_t(-1).value)
         self.assertEqual({name[6:]: number for name, number in defined(r"VALUE_\w+").items()}, dict(gpmf.Kind.__members__))
+        self.assertEqual({name[4:]: number for name, number in defined(r"TAG_\w+").items()}, dict(gpmf.Tag.__members__))
         forms = defined("SIGNED|UNSIGNED|SINGLE|DOUBLE")
         self.assertEqual({name.lower() + "_value": number for name, number in forms.items()}, {form: at for at, form in enumerate(gpmf._FORMS)})
 
     def test_meanings(self):
-        table = re.findall(r"^\| (\d+) \| (.*?)(?: \(for a value read: .*\))? \|$", (ROOT / "README.md").read_text(), re.M)
+        table = re.findall(r"^\| (\d+) \| (.*) \|$", (ROOT / "README.md").read_text(), re.M)
         self.assertEqual(gpmf.MEANINGS, {int(number): meaning for number, meaning in table})
         self.assertEqual(list(gpmf.MEANINGS), list(range(1, 14)))
 
@@ -108,8 +109,8 @@ class Face(unittest.TestCase):
 class AsAnException(unittest.TestCase):
     def test_a_refusal_says_what_it_means(self):
         refusal = gpmf.Refusal(2, 984)
-        self.assertEqual(str(refusal), "refused with 2 at 984: an item's payload runs past the end of its level")
-        self.assertEqual((refusal.number, refusal.place, refusal.meaning), (2, 984, "an item's payload runs past the end of its level"))
+        self.assertEqual(str(refusal), "refused with 2 at 984: an item's payload runs past the end of its level (for a value read: of the payload given)")
+        self.assertEqual((refusal.number, refusal.place, refusal.meaning), (2, 984, gpmf.MEANINGS[2]))
         self.assertIn("does not know", gpmf.Refusal(99, 0).meaning)
         self.assertIsInstance(refusal, Exception)
 

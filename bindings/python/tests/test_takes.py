@@ -115,9 +115,9 @@ class Values(unittest.TestCase):
     def test_lookup_by_tag(self):
         reading = self.readings[0]
         self.assertEqual(reading.lookup("MWET", gpmf.Tag.DATA), reading.lookup("MWET", "MWET"))
-        self.assertEqual([reading.lookup("GYRO", tag).key for tag in gpmf.Tag], "GYRO SIUN MTRX SCAL STMP STNM TMPC TSMP ORIN ORIO".split())
+        self.assertEqual([reading.lookup("GYRO", tag).key for tag in gpmf.Tag if tag is not gpmf.Tag.OTHER], "GYRO SIUN MTRX SCAL STMP STNM TMPC TSMP ORIN ORIO".split())
         self.assertIsNone(reading.lookup("MWET", gpmf.Tag.SCALE))
-        for outside in 0, 11, -1, 2**70, 1.5, None:
+        for outside in gpmf.Tag.OTHER, 0, 11, -1, 2**70, 1.5, None:
             self.assertRaises(ValueError, reading.lookup, "MWET", outside)
 
     def test_lookup_by_key(self):

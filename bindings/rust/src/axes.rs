@@ -2,7 +2,7 @@
 use crate::refusal::{is, told, Refusal};
 use crate::sys;
 
-/// Three axes, a letter each: `X`, `Y` or `Z`, small for the other direction.
+/// Three axes, a character each; a camera's are `X`, `Y` and `Z`, small for the other direction.
 ///
 /// ```
 /// let axes: gpmf::Axes = *b"YxZ";

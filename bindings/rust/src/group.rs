@@ -5,7 +5,8 @@ use crate::refusal::{told, Refusal};
 use crate::rows::Group;
 use crate::sys;
 
-/// The item of a group and tag: where it stands, and its header. Refused with 1, with 5 as [`lookup`](crate::lookup), with 2 or 12 where the row's place holds no such item.
+/// The item of a group and tag, if there is such a row: where it stands, and its header. Refused with 1, at place 0, with 5 as [`lookup`](crate::lookup), or with 2 or 12,
+/// at the row's place, where that holds no such item.
 ///
 /// ```
 /// use gpmf::{tagged_item, Group, Tag};
@@ -23,7 +24,8 @@ pub fn tagged_item(payload: &[u8], rows: &[u32], count: usize, group: Group, tag
     })
 }
 
-/// The stamp of a group, in microseconds of the camera's clock.
+/// The stamp of a group, in microseconds of the camera's clock: its STMP, if that is one `J` number or a date (of which these are the milliseconds as they are), else
+/// its TICK, if that is one `L` number, times 1000. Refused as [`tagged_item`]; with 6 or 7 too, at the place of STMP, for a date.
 ///
 /// ```
 /// let payload = b"STMPJ\x08\x00\x01\0\0\0\0\0\x0f\x48\x2e";
@@ -62,7 +64,8 @@ impl Quaternion {
     }
 }
 
-/// The quaternion of a row of CORI or IORI, scaled by the group's SCAL.
+/// The quaternion of a row of CORI or IORI, scaled by the group's SCAL if that is one `s` number, else by 32767; none where the group has no data, or these are no
+/// quaternions. Refused as [`tagged_item`], of the data or of SCAL; with 6 or 13 too, at the place of the data.
 ///
 /// ```
 /// let payload = b"SCALs\x02\x00\x01\x00\x02\0\0CORIs\x08\x00\x01\x00\x01\x00\x02\x00\x03\x00\x04";
@@ -95,7 +98,8 @@ pub fn negated(x: i16) -> i16 {
     unsafe { sys::gpmf_negated(x) }
 }
 
-/// The axes of a group by its MTRX, or where it has none by its ORIN and ORIO.
+/// The axes of a group by its MTRX, or where it has none by its ORIN and ORIO; none where it has not these, or their types are others. Refused with 1, with 5 as
+/// [`lookup`](crate::lookup), with 2, 6, 7, 8 or 12 at the place of one of them, and with 9 or 10 as the calls on axes.
 ///
 /// ```
 /// let payload = b"ORINc\x01\x00\x03YxZ\0ORIOc\x01\x00\x03XYZ\0";

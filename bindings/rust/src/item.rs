@@ -35,7 +35,7 @@ impl Klv {
         Klv { key: klv.key.to_be_bytes(), data_type: klv.data_type, size: klv.size, repeat: klv.repeat }
     }
 
-    pub(crate) fn to_sys(self) -> sys::Klv {
+    fn to_sys(self) -> sys::Klv {
         sys::Klv { key: u32::from_be_bytes(self.key), data_type: self.data_type, size: self.size, repeat: self.repeat }
     }
 
@@ -138,7 +138,7 @@ pub(crate) fn placed(a: sys::ItemAnswer) -> Result<Option<(usize, Klv)>, Refusal
     told(a.kind, a.number, a.place, (a.place, Klv::from_sys(a.klv)))
 }
 
-/// The last item of the level from a place to the end: where it stands, and its header. Refused with 2 or 3, at the place where the search stops.
+/// The last item of the level from a place to the end, if there is one: where it stands, and its header. Refused with 2 or 3, at the place where the search stops.
 ///
 /// ```
 /// let level = b"ABCDB\x01\x00\x04abcdEFGHB\x00\x00\x00";
@@ -184,21 +184,20 @@ pub enum Tag {
     TimestampUs,
     /// The name of a stream or a device: STNM, DVNM.
     Name,
-    /// A temperature: TMPC.
-    Temperature,
-    /// How many samples there were so far: TSMP.
-    Count,
-    /// The order of the axes that come in: ORIN.
-    OrientationIn,
-    /// The order in which they are wanted: ORIO.
-    OrientationOut,
+    /// A temperature.
+    Tmpc,
+    /// How many samples there were so far.
+    Tsmp,
+    /// The order of the axes that come in.
+    Orin,
+    /// The order in which they are wanted.
+    Orio,
     /// None of these: known by the key alone.
     Other(Key),
 }
 
 /// The tags by number from 1.
-const TAGS: [Tag; 10] =
-    [Tag::Data, Tag::Unit, Tag::Matrix, Tag::Scale, Tag::TimestampUs, Tag::Name, Tag::Temperature, Tag::Count, Tag::OrientationIn, Tag::OrientationOut];
+const TAGS: [Tag; 10] = [Tag::Data, Tag::Unit, Tag::Matrix, Tag::Scale, Tag::TimestampUs, Tag::Name, Tag::Tmpc, Tag::Tsmp, Tag::Orin, Tag::Orio];
 
 impl Tag {
     /// The tag of a key.
@@ -207,8 +206,13 @@ impl Tag {
     /// assert_eq!(gpmf::Tag::of(*b"STMP"), gpmf::Tag::TimestampUs);
     /// ```
     pub fn of(key: Key) -> Tag {
-        match tag_id(key) as usize {
-            number @ 1..=10 => TAGS[number - 1],
+        Tag::numbered(tag_id(key), key)
+    }
+
+    /// The tag of a number; with a number that is no tag's, that of the key alone.
+    pub(crate) fn numbered(number: u32, key: Key) -> Tag {
+        match number {
+            1..=10 => TAGS[number as usize - 1],
             _ => Tag::Other(key),
         }
     }
@@ -260,4 +264,23 @@ pub fn group_from_key(key: Key) -> (u32, Key) {
 /// ```
 pub fn big_endian(part: &[u8]) -> u64 {
     unsafe { sys::gpmf_big_endian(part.as_ptr(), part.len()) }
+}
+
+#[cfg(test)]
+mod tests {
+    use super::*;
+
+    /// The names and numbers of the tags are those of gpmf.h, in another case.
+    #[test]
+    fn tags_are_those_of_the_header() {
+        let header = std::fs::read_to_string("../../include/gpmf.h").unwrap();
+        let defined: Vec<(String, u32)> = header
+            .lines()
+            .filter_map(|line| line.strip_prefix("#define GPMF_TAG_")?.split_once(" UINT32_C("))
+            .map(|(name, rest)| (name.replace('_', "").to_lowercase(), rest.split(')').next().unwrap().parse().unwrap()))
+            .collect();
+        let named = |tag: Tag| format!("{tag:?}").split('(').next().unwrap().to_lowercase();
+        let tags: Vec<(String, u32)> = std::iter::once(Tag::Other(*b"FACE")).chain(TAGS).map(|tag| (named(tag), tag.number())).collect();
+        assert_eq!(defined, tags);
+    }
 }

@@ -9,7 +9,7 @@
 //! let file = std::fs::read("../../samples/take.raw")?;
 //! let mut wet = Vec::new();
 //! for (second, packet) in gpmf::packets(&file).enumerate() {
-//!     let reading = packet.reading?;
+//!     let reading = packet.reading()?;
 //!     let Some(mwet) = reading.item(Group::of(*b"MWET"), Tag::Data) else { continue };
 //!     for row in 0..mwet.shape()?.rows {
 //!         if mwet.element(row, 0)? != Element::Unsigned(0) {

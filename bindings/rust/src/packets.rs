@@ -41,7 +41,7 @@ pub struct PacketCursor {
 pub enum InWindow<T> {
     /// The packet's bytes in the window, what was asked of them, and the cursor to go on with.
     Packet(Range<usize>, T, PacketCursor),
-    /// Not known before more of the file is there: go on with a window that begins at this place of this one.
+    /// Not known before more of the file is there: go on with a window that begins at this place of this one, and in that with `PacketCursor::new(0)`.
     More {
         /// Nothing before it is needed.
         from: usize,
@@ -155,21 +155,51 @@ impl PacketCursor {
 /// ```
 /// let file = std::fs::read("../../samples/damaged.raw")?;
 /// let second = gpmf::packets(&file).nth(1).unwrap();
-/// assert_eq!((second.range.clone(), second.payload.len()), (1228..2430, 1202));
-/// assert_eq!(second.reading.unwrap_err().to_string(), "refused with 2 at 984: an item's payload runs past the end of its level");
+/// assert_eq!((second.range(), second.payload().len()), (1228..2430, 1202));
+/// assert_eq!(second.reading().unwrap_err(), gpmf::Refusal { number: gpmf::Refusal::PAST_END, place: 984 });
 /// # Ok::<(), std::io::Error>(())
 /// ```
 #[derive(Clone, Debug)]
 pub struct Packet<'a> {
-    /// Where its payload stands in the file.
-    pub range: Range<usize>,
-    /// Its payload.
-    pub payload: &'a [u8],
-    /// What that is read as.
-    pub reading: Result<Reading<'a>, Refusal>,
+    range: Range<usize>,
+    payload: &'a [u8],
+    reading: Result<Reading<'a>, Refusal>, // what the payload is read as, and nothing else: `front` rests on that
 }
 
 impl<'a> Packet<'a> {
+    /// Where its payload stands in the file.
+    ///
+    /// ```
+    /// let file = std::fs::read("../../samples/take.raw")?;
+    /// assert_eq!(gpmf::packets(&file).next().unwrap().range(), 8..1220);
+    /// # Ok::<(), std::io::Error>(())
+    /// ```
+    pub fn range(&self) -> Range<usize> {
+        self.range.clone()
+    }
+
+    /// Its payload, as a part of the file.
+    ///
+    /// ```
+    /// let file = std::fs::read("../../samples/take.raw")?;
+    /// assert_eq!(gpmf::packets(&file).next().unwrap().payload(), &file[8..1220]);
+    /// # Ok::<(), std::io::Error>(())
+    /// ```
+    pub fn payload(&self) -> &'a [u8] {
+        self.payload
+    }
+
+    /// What that is read as. Refused with 1 to 5.
+    ///
+    /// ```
+    /// let file = std::fs::read("../../samples/take.raw")?;
+    /// assert_eq!(gpmf::packets(&file).next().unwrap().reading()?.len(), 57);
+    /// # Ok::<(), Box<dyn std::error::Error>>(())
+    /// ```
+    pub fn reading(&self) -> Result<&Reading<'a>, Refusal> {
+        self.reading.as_ref().map_err(|&refusal| refusal)
+    }
+
     /// Its reading, or where that is refused the reading of what stands before the place, and the refusal.
     ///
     /// ```
@@ -189,7 +219,7 @@ impl<'a> Packet<'a> {
 /// ```
 /// let file = std::fs::read("../../samples/damaged.raw")?;
 /// let packets: gpmf::Packets = gpmf::packets(&file);
-/// assert_eq!(packets.filter(|packet| packet.reading.is_ok()).count(), 2);
+/// assert_eq!(packets.filter(|packet| packet.reading().is_ok()).count(), 2);
 /// # Ok::<(), std::io::Error>(())
 /// ```
 #[derive(Clone, Debug)]
@@ -204,7 +234,7 @@ pub struct Packets<'a> {
 /// ```
 /// let file = std::fs::read("../../samples/take.raw")?;
 /// for packet in gpmf::packets(&file) {
-///     println!("{} bytes, {} rows", packet.payload.len(), packet.reading?.len());
+///     println!("{} bytes, {} rows", packet.payload().len(), packet.reading()?.len());
 /// }
 /// # Ok::<(), Box<dyn std::error::Error>>(())
 /// ```

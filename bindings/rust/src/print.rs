@@ -66,7 +66,7 @@ pub struct About {
 }
 
 /// A packet of a take: its line, its listing, and where it is refused the listing of what stands before the place. Tells the place behind it, and whether the packet
-/// was accepted.
+/// was accepted. The rows of what is listed go into `rows`: of a refused packet those of its front, and with `whole` none.
 ///
 /// ```
 /// let mut out = [0; 64];

@@ -7,7 +7,7 @@ use std::fmt;
 /// ```
 /// let refusal = gpmf::Reading::of(b"ABCDB\x06\x00\x01abcde").unwrap_err();
 /// assert_eq!(refusal, gpmf::Refusal { number: gpmf::Refusal::PAST_END, place: 0 });
-/// assert_eq!(refusal.to_string(), "refused with 2 at 0: an item's payload runs past the end of its level");
+/// assert_eq!(refusal.to_string(), "refused with 2 at 0: an item's payload runs past the end of its level (for a value read: of the payload given)");
 /// ```
 #[derive(Clone, Copy, Debug, PartialEq, Eq, Hash)]
 pub struct Refusal {
@@ -20,10 +20,10 @@ pub struct Refusal {
 /// The meanings, by number from 1.
 const MEANINGS: [&str; 13] = [
     "the payload is over the limit of 1,048,576 bytes",
-    "an item's payload runs past the end of its level",
+    "an item's payload runs past the end of its level (for a value read: of the payload given)",
     "the search for a container's or a payload's last item meets 1 to 7 bytes, too few for a header",
-    "a container with a payload stands at depth 16",
-    "a row, written or claimed, does not fit the room",
+    "a container with a payload stands at depth 16; the outermost items have depth 0",
+    "a row, written or claimed, does not fit the room: the lent numbers / 8, rounded down, and at most 4,096 rows",
     "an item's payload has too few bytes for the shape of its value",
     "a text of the value, or its date, is not readable",
     "a TYPE text expands to more than 256 characters",
@@ -63,7 +63,7 @@ impl Refusal {
     /// 13: the row or the column lies outside the value.
     pub const OUTSIDE: u32 = 13;
 
-    /// What the number means.
+    /// What the number means, in the words of the repository's README.
     ///
     /// ```
     /// let refusal = gpmf::parse_utcdate(b"yesterday").unwrap_err();
@@ -107,13 +107,13 @@ pub(crate) fn told<T>(kind: u32, number: u32, place: usize, value: T) -> Result<
 mod tests {
     use super::*;
 
-    /// Each meaning is how the repository's README begins the line of that number.
+    /// Each meaning is the line that the repository's README has for that number.
     #[test]
     fn meanings_are_those_of_the_readme() {
         let readme = std::fs::read_to_string("../../README.md").unwrap();
         for number in 1..=13 {
             let meaning = Refusal { number, place: 0 }.meaning();
-            assert!(readme.contains(&format!("\n| {number} | {meaning}")), "{number}: {meaning}");
+            assert!(readme.contains(&format!("\n| {number} | {meaning} |\n")), "{number}: {meaning}");
         }
         assert!(!readme.contains("\n| 14 |"));
     }

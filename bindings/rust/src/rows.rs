@@ -47,7 +47,7 @@ impl Group {
 /// let reading = gpmf::Reading::of(b"ABCDB\x05\x00\x01abcde")?;
 /// let row = reading.row(0).unwrap();
 /// assert_eq!((row.place, &row.key, row.data_type, row.size, row.repeat), (0, b"ABCD", b'B', 5, 1));
-/// assert_eq!((row.group, row.tag, row.type_place, row.depth), (gpmf::Group::CALLER, 0, None, 0));
+/// assert_eq!((row.group, row.tag(), row.type_place, row.depth), (gpmf::Group::CALLER, gpmf::Tag::Other(*b"ABCD"), None, 0));
 /// # Ok::<(), gpmf::Refusal>(())
 /// ```
 #[derive(Clone, Copy, Debug, PartialEq, Eq, Hash)]
@@ -56,8 +56,8 @@ pub struct Row {
     pub place: u32,
     /// The group of the item.
     pub group: Group,
-    /// The key's number in the table of tags, 0 for others.
-    pub tag: u32,
+    /// The number of its tag, 0 for others: see [`Row::tag`].
+    pub tag_number: u32,
     /// The item's key.
     pub key: Key,
     /// The letter of its type.
@@ -66,19 +66,30 @@ pub struct Row {
     pub size: u8,
     /// How many samples there are.
     pub repeat: u16,
-    /// Where the TYPE in force for a `?` item stands.
+    /// Where the TYPE in force for a `?` item stands. `Some(4294967295)` is stored as none: the numbers have that for a TYPE that is not there.
     pub type_place: Option<u32>,
     /// How many containers stand round the item.
     pub depth: u32,
 }
 
 impl Row {
+    /// The tag of the item.
+    ///
+    /// ```
+    /// let reading = gpmf::Reading::of(b"SCALs\x02\x00\x01\x00\x05")?;
+    /// assert_eq!(reading.row(0).unwrap().tag(), gpmf::Tag::Scale);
+    /// # Ok::<(), gpmf::Refusal>(())
+    /// ```
+    pub fn tag(&self) -> Tag {
+        Tag::numbered(self.tag_number, self.key)
+    }
+
     fn from_sys(row: sys::Row) -> Self {
         let [data_type, size, high, low] = row.shape.to_be_bytes();
         Row {
             place: row.place,
             group: Group { kind: row.group_kind, key: row.group_key.to_be_bytes() },
-            tag: row.tag,
+            tag_number: row.tag,
             key: row.key.to_be_bytes(),
             data_type,
             size,
@@ -94,7 +105,7 @@ impl Row {
             place: self.place,
             group_kind: self.group.kind,
             group_key: self.group.number(),
-            tag: self.tag,
+            tag: self.tag_number,
             key: u32::from_be_bytes(self.key),
             shape: u32::from_be_bytes([self.data_type, self.size, high, low]),
             type_place: self.type_place.unwrap_or(sys::NO_TYPE),

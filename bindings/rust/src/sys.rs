@@ -71,26 +71,6 @@ extern "C" {
     pub fn gpmf_klv_at(s: *const u8, s_len: usize, at: usize, type_at: usize) -> ItemAnswer;
     pub fn gpmf_bytes_at(s: *const u8, s_len: usize, at: usize, type_at: usize) -> PartAnswer;
     pub fn gpmf_text_at(s: *const u8, s_len: usize, at: usize, type_at: usize, row: usize) -> PartAnswer;
-    pub fn gpmf_element_of(
-        place: usize,
-        klv: Klv,
-        payload: *const u8,
-        payload_len: usize,
-        type_text: *const u8,
-        type_text_len: usize,
-        row: usize,
-        column: usize,
-    ) -> ElementAnswer;
-    pub fn gpmf_shape_of(place: usize, klv: Klv, payload: *const u8, payload_len: usize, type_text: *const u8, type_text_len: usize) -> ShapeAnswer;
-    pub fn gpmf_columns_of(
-        place: usize,
-        klv: Klv,
-        payload: *const u8,
-        payload_len: usize,
-        type_text: *const u8,
-        type_text_len: usize,
-        row: usize,
-    ) -> WholeAnswer;
 
     // items
     pub fn gpmf_cursor_new(at: usize) -> Cursor;

@@ -76,7 +76,9 @@ fn type_at(place: Option<usize>) -> usize {
     place.unwrap_or(sys::NO_TYPE as usize)
 }
 
-/// The element at a row and a column of the item at a place. Refused with 1, 2, 6, 7, 8, 12 or 13, at the place asked.
+/// The element at a row and a column of the item at a place. Refused with 1, at place 0, or with 2, 6, 7, 8, 12 or 13, at the place asked.
+///
+/// Here and in the calls below, a `type_place` of `Some(4294967295)` is none: the library has that number for a TYPE that is not there, and no payload is so long.
 ///
 /// ```
 /// use gpmf::{element, Element, Refusal};
@@ -103,15 +105,12 @@ pub fn element(bytes: &[u8], at: usize, type_place: Option<usize>, row: usize, c
 /// # Ok::<(), gpmf::Refusal>(())
 /// ```
 pub fn shape_at(bytes: &[u8], at: usize, type_place: Option<usize>) -> Result<Shape, Refusal> {
-    shape_from_sys(unsafe { sys::gpmf_shape_at(bytes.as_ptr(), bytes.len(), at, type_at(type_place)) })
-}
-
-fn shape_from_sys(a: sys::ShapeAnswer) -> Result<Shape, Refusal> {
+    let a = unsafe { sys::gpmf_shape_at(bytes.as_ptr(), bytes.len(), at, type_at(type_place)) };
     let kind = KINDS.get(a.value_kind as usize).copied().unwrap_or(Kind::Unknown);
     is(a.kind, a.number, a.place, Shape { kind, rows: a.rows, columns: a.columns })
 }
 
-/// The columns of a row: of a text, its bytes.
+/// The columns of a row: of a text, its bytes. Refused as an element is; with 13 where the row lies outside.
 ///
 /// ```
 /// let units = b"UNITc\x03\x00\x02degm\0\0";
@@ -122,7 +121,7 @@ pub fn columns_at(bytes: &[u8], at: usize, type_place: Option<usize>, row: usize
     is(a.kind, a.number, a.place, a.value as usize)
 }
 
-/// The header of the item at a place that has a value. Refused with 1, 2 or 12.
+/// The header of the item at a place that has a value. Refused with 1, at place 0, or with 2 or 12, at the place asked.
 ///
 /// ```
 /// let item = b"MWETB\x03\x00\x02abcdef";
@@ -141,7 +140,7 @@ fn part(bytes: &[u8], a: sys::PartAnswer) -> Result<&[u8], Refusal> {
     Ok(&bytes[a.start..a.start + a.length])
 }
 
-/// The own payload of the item at a place, as a part of the bytes. Refused with 1, 2 or 12.
+/// The own payload of the item at a place, as a part of the bytes. Refused as [`klv_at`].
 ///
 /// ```
 /// let item = b"MWETB\x03\x00\x02abcdef\0\0";
@@ -162,68 +161,4 @@ pub fn bytes_at(bytes: &[u8], at: usize, type_place: Option<usize>) -> Result<&[
 /// ```
 pub fn text_at(bytes: &[u8], at: usize, type_place: Option<usize>, row: usize) -> Result<&[u8], Refusal> {
     part(bytes, unsafe { sys::gpmf_text_at(bytes.as_ptr(), bytes.len(), at, type_at(type_place), row) })
-}
-
-/// An item that a caller holds apart: its header, the payload behind it, and the TYPE text in force without its trailing zeros, of no bytes for none. A refusal tells `place`.
-///
-/// ```
-/// let header = gpmf::Klv { key: *b"FACE", data_type: b'?', size: 8, repeat: 1 };
-/// let face = gpmf::Apart { place: 0, header, payload: b"\0\0\0\x07\x3f\xc0\0\0", type_text: b"Lf" };
-/// assert_eq!(face.element(0, 1)?, gpmf::Element::Single(1.5));
-/// # Ok::<(), gpmf::Refusal>(())
-/// ```
-#[derive(Clone, Copy, Debug)]
-pub struct Apart<'a> {
-    /// What a refusal tells as its place.
-    pub place: usize,
-    /// The item's header.
-    pub header: Klv,
-    /// The bytes behind it.
-    pub payload: &'a [u8],
-    /// The TYPE text in force, for a structure.
-    pub type_text: &'a [u8],
-}
-
-impl Apart<'_> {
-    /// The element at a row and a column. Refused with 6, 7, 8 or 13.
-    ///
-    /// ```
-    /// let header = gpmf::Klv { key: *b"MWET", data_type: b'B', size: 3, repeat: 1 };
-    /// let wet = gpmf::Apart { place: 7, header, payload: &[1, 0, 95], type_text: b"" };
-    /// assert_eq!(wet.element(0, 2)?, gpmf::Element::Unsigned(95));
-    /// assert_eq!(wet.element(1, 0).unwrap_err().place, 7);
-    /// # Ok::<(), gpmf::Refusal>(())
-    /// ```
-    pub fn element(&self, row: usize, column: usize) -> Result<Element, Refusal> {
-        let (payload, text) = (self.payload, self.type_text);
-        let a = unsafe { sys::gpmf_element_of(self.place, self.header.to_sys(), payload.as_ptr(), payload.len(), text.as_ptr(), text.len(), row, column) };
-        is(a.kind, a.number, a.place, Element::from_sys(a.element))
-    }
-
-    /// What its value is called, its rows, and the columns of its first row.
-    ///
-    /// ```
-    /// let header = gpmf::Klv { key: *b"MWET", data_type: b'B', size: 3, repeat: 1 };
-    /// let wet = gpmf::Apart { place: 7, header, payload: &[1, 0, 95], type_text: b"" };
-    /// assert_eq!(wet.shape()?.kind, gpmf::Kind::Vector);
-    /// # Ok::<(), gpmf::Refusal>(())
-    /// ```
-    pub fn shape(&self) -> Result<Shape, Refusal> {
-        let (payload, text) = (self.payload, self.type_text);
-        shape_from_sys(unsafe { sys::gpmf_shape_of(self.place, self.header.to_sys(), payload.as_ptr(), payload.len(), text.as_ptr(), text.len()) })
-    }
-
-    /// The columns of a row: of a text, its bytes.
-    ///
-    /// ```
-    /// let header = gpmf::Klv { key: *b"UNIT", data_type: b'c', size: 3, repeat: 2 };
-    /// let units = gpmf::Apart { place: 0, header, payload: b"degm\0\0", type_text: b"" };
-    /// assert_eq!(units.columns(1)?, 1);
-    /// # Ok::<(), gpmf::Refusal>(())
-    /// ```
-    pub fn columns(&self, row: usize) -> Result<usize, Refusal> {
-        let (payload, text) = (self.payload, self.type_text);
-        let a = unsafe { sys::gpmf_columns_of(self.place, self.header.to_sys(), payload.as_ptr(), payload.len(), text.as_ptr(), text.len(), row) };
-        is(a.kind, a.number, a.place, a.value as usize)
-    }
 }

@@ -23,7 +23,7 @@ fn rows_are_those_of_the_listing() {
     for row in reading.rows() {
         let group = if row.group == Group::CALLER { "-".into() } else { letters(row.group.key) };
         listed += &format!("{} {group} {} {} {} {} {}\n", row.place, letters(row.key), row.data_type, row.size, row.repeat, row.depth);
-        assert_eq!(row.tag, Tag::of(row.key).number());
+        assert_eq!((row.tag(), row.tag_number), (Tag::of(row.key), gpmf::tag_id(row.key)));
         assert_eq!(row.type_place, (row.key == *b"FACE").then_some(684));
         assert_eq!(reading.item_of(row).row(), row);
     }
@@ -38,9 +38,9 @@ fn takes_are_printed_as_stored() {
         let (mut at, mut packets, mut read) = (0, 0, 0);
         for packet in gpmf::packets(&file) {
             packets += 1;
-            let about = gpmf::About { number: packets, place: packet.range.start as u64, whole };
-            let (end, accepted) = gpmf::put_packet(packet.payload, about, &mut rows, &mut out, at);
-            assert_eq!(accepted, packet.reading.is_ok());
+            let about = gpmf::About { number: packets, place: packet.range().start as u64, whole };
+            let (end, accepted) = gpmf::put_packet(packet.payload(), about, &mut rows, &mut out, at);
+            assert_eq!(accepted, packet.reading().is_ok());
             at = end.unwrap();
             read += u64::from(accepted);
         }
@@ -60,7 +60,8 @@ fn unsigned(element: Element) -> u64 {
 #[test]
 fn values_are_those_of_the_table() {
     let file = sample("take.raw");
-    let reading = gpmf::packets(&file).next().unwrap().reading.unwrap();
+    let first = gpmf::packets(&file).next().unwrap();
+    let reading = first.reading().unwrap();
     let wet = reading.item(Group::of(*b"MWET"), Tag::Data).unwrap();
     let confidence: Vec<u64> = (0..4).map(|row| unsigned(wet.element(row, 2).unwrap())).collect();
     assert_eq!(confidence, [95, 95, 96, 99]);
@@ -75,12 +76,12 @@ fn values_are_those_of_the_table() {
 fn a_refused_packet_has_a_front() {
     let file = sample("damaged.raw");
     let fifth = gpmf::packets(&file).nth(4).unwrap();
-    assert_eq!(fifth.reading.unwrap_err(), Refusal { number: Refusal::PAST_END, place: 892 });
-    let (front, _) = Reading::front(fifth.payload);
+    assert_eq!(fifth.reading().unwrap_err(), Refusal { number: Refusal::PAST_END, place: 892 });
+    let (front, _) = Reading::front(fifth.payload());
     assert_eq!((front.len(), front.headers()), (43, 93));
     assert!(front.item(Group::of(*b"MWET"), Tag::Data).is_some() && front.item(Group::of(*b"AALP"), Tag::Data).is_none());
     let mut rows = [7; 512];
-    assert!(gpmf::parse_metadata(fifth.payload, false, &mut rows).is_err());
+    assert!(gpmf::parse_metadata(fifth.payload(), false, &mut rows).is_err());
     assert_eq!(rows, [7; 512]);
 }
 
@@ -108,7 +109,7 @@ fn in_windows(file: &[u8], size: usize) -> Vec<Range<usize>> {
 #[test]
 fn windows_have_the_packets_of_the_file() {
     let file = sample("damaged.raw");
-    let whole: Vec<Range<usize>> = gpmf::packets(&file).map(|packet| packet.range).collect();
+    let whole: Vec<Range<usize>> = gpmf::packets(&file).map(|packet| packet.range()).collect();
     assert_eq!(whole, [8..1220, 1228..2430, 2438..3682, 3690..4911, 4919..5906]);
     for size in [1, 3, 100, 1300, 5906] {
         assert_eq!(in_windows(&file, size), whole, "{size}");
