@@ -4,13 +4,12 @@
  * the second is in the table, and the last column tells the refusal. samples/README.md describes each column. */
 #include "gpmf.h"
 
+#include <errno.h>
 #include <stdio.h>
 #include <stdlib.h>
+#include <string.h>
 
 #define NUMBERS ((size_t)GPMF_MOST_ROWS * GPMF_ROW_WIDTH)
-#define BY_KEY 1u    /* the group of a stream is named by the key of its last item */
-#define TAG_DATA 1u  /* the readings of a stream */
-#define TAG_SCALE 4u /* what they are divided by */
 
 /* A payload that was accepted, and its rows. */
 typedef struct reading {
@@ -29,7 +28,7 @@ typedef struct value {
 
 /* Finds the item of a group and tag; false where there is none, or its value cannot be read. */
 static bool find(const reading *from, uint32_t group, uint32_t tag, value *found) {
-    gpmf_whole_answer index = gpmf_lookup(from->rows, NUMBERS, from->count, BY_KEY, group, tag, 0);
+    gpmf_whole_answer index = gpmf_lookup(from->rows, NUMBERS, from->count, GPMF_GROUP_BY_KEY, group, tag, 0);
     gpmf_shape_answer shape;
     if (index.kind != GPMF_IS) return false;
     found->row = gpmf_row_at(from->rows, NUMBERS, (size_t)index.value).row;
@@ -56,8 +55,8 @@ static bool scale(const reading *from, uint32_t group, size_t column, double *nu
     value scal;
     size_t index;
     *number = 1;
-    if (gpmf_lookup(from->rows, NUMBERS, from->count, BY_KEY, group, TAG_SCALE, 0).kind == GPMF_NOTHING) return true;
-    if (!find(from, group, TAG_SCALE, &scal) || scal.columns == 0) return false;
+    if (gpmf_lookup(from->rows, NUMBERS, from->count, GPMF_GROUP_BY_KEY, group, GPMF_TAG_SCALE, 0).kind == GPMF_NOTHING) return true;
+    if (!find(from, group, GPMF_TAG_SCALE, &scal) || scal.columns == 0) return false;
     index = scal.rows == 1 && scal.columns == 1 ? 0 : column;
     return element(from, &scal, index / scal.columns, index % scal.columns, number) && *number != 0;
 }
@@ -91,12 +90,12 @@ static void print_second(unsigned long second, const reading *from, const char *
     char cells[5][32] = {"-", "-", "-", "-", "-"};
     value found;
     double divisor;
-    if (find(from, mwet, TAG_DATA, &found) && found.columns >= 3) {
+    if (find(from, mwet, GPMF_TAG_DATA, &found) && found.columns >= 3) {
         share(from, &found, 0, cells[0]);
         share(from, &found, 1, cells[1]);
         mean(from, &found, 2, 1, cells[2]);
     }
-    if (find(from, aalp, TAG_DATA, &found) && found.columns >= 2) {
+    if (find(from, aalp, GPMF_TAG_DATA, &found) && found.columns >= 2) {
         if (scale(from, aalp, 0, &divisor)) mean(from, &found, 0, divisor, cells[3]);
         if (scale(from, aalp, 1, &divisor)) mean(from, &found, 1, divisor, cells[4]);
     }
@@ -137,11 +136,16 @@ static uint8_t *load(FILE *file, size_t *size) {
 }
 
 int main(int count, char **words) {
-    FILE *file = count == 2 ? fopen(words[1], "rb") : NULL;
+    FILE *file;
     uint8_t *bytes;
     size_t size;
-    if (file == NULL) {
+    if (count != 2) {
         fputs("usage: mixer FILE\n", stderr);
+        return 2;
+    }
+    file = fopen(words[1], "rb");
+    if (file == NULL) {
+        fprintf(stderr, "mixer: %s: %s\n", words[1], strerror(errno));
         return 2;
     }
     bytes = load(file, &size);

@@ -66,9 +66,13 @@ def main() -> None:
     if len(sys.argv) != 2:
         print("usage: mixer.py FILE", file=sys.stderr)
         sys.exit(2)
-    print(HEADER)
-    for packet in gpmf.open_take(sys.argv[1]):
-        print(line_of(packet))
+    try:
+        with gpmf.open_take(sys.argv[1]) as take:
+            lines = [line_of(packet) for packet in take]
+    except OSError as why:
+        print(f"mixer.py: {sys.argv[1]}: {why.strerror or why}", file=sys.stderr)
+        sys.exit(2)
+    print(HEADER, *lines, sep="\n")
 
 
 if __name__ == "__main__":

@@ -93,6 +93,13 @@ class Usage(unittest.TestCase):
     def test_the_example_says_how_it_is_used(self):
         said = run(MODULE.parent, LIBRARY, "mixer.py")
         self.assertEqual((said.stdout, said.stderr, said.returncode), ("", "usage: mixer.py FILE\n", 2))
+        said = run(MODULE.parent, LIBRARY, "mixer.py", str(SAMPLES / "take.raw"), "more")
+        self.assertEqual((said.stdout, said.stderr, said.returncode), ("", "usage: mixer.py FILE\n", 2))
+
+    def test_the_example_says_which_file_it_cannot_read(self):
+        for file in SAMPLES / "missing.raw", SAMPLES:
+            said = run(MODULE.parent, LIBRARY, "mixer.py", str(file))
+            self.assertEqual((said.stdout, said.stderr.startswith(f"mixer.py: {file}: "), said.stderr.count("\n"), said.returncode), ("", True, 1, 2))
 
 
 if __name__ == "__main__":

@@ -59,11 +59,12 @@ fn line(second: usize, reading: &Reading, refusal: Option<Refusal>) -> String {
 }
 
 fn main() -> ExitCode {
-    let Some(path) = std::env::args_os().nth(1) else {
+    let words: Vec<_> = std::env::args_os().skip(1).collect();
+    let [path] = words.as_slice() else {
         eprintln!("usage: mixer FILE");
         return ExitCode::from(2);
     };
-    let file = match std::fs::read(&path) {
+    let file = match std::fs::read(path) {
         Ok(file) => file,
         Err(why) => {
             eprintln!("mixer: {}: {why}", path.to_string_lossy());
