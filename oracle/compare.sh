@@ -1,6 +1,7 @@
 #!/bin/sh
 # Asks the built oracle and a program of ours the same new questions and compares: compare.sh SEED TIMES PROGRAM COMMAND [WORD ..]
-# PROGRAM is `replay` or `replay_packets`, and COMMAND runs it, as `./gpmf replay`. Exit 1 at a difference, with the first ten questions whose answers differ.
+# PROGRAM is `replay`, `replay_values`, `replay_axes` or `replay_packets`, or one kind of its questions, and COMMAND runs it, as `./gpmf replay`, on as many
+# questions at once as it reads. Exit 1 at a difference, with the first ten questions whose answers differ.
 set -eu
 [ $# -ge 4 ] || { echo "usage: $0 SEED TIMES PROGRAM COMMAND [WORD ..]" >&2; exit 2; }
 here=$(cd "$(dirname "$0")" && pwd)
@@ -10,7 +11,7 @@ room=$(mktemp -d)
 trap 'rm -rf "$room"' EXIT
 "$here/questions.py" --seed "$seed" --times "$times" "$program" | grep -v '^$' > "$room/questions" # an empty line has no answer
 "$here/target/release/gpmf-oracle" < "$room/questions" > "$room/oracle"
-"$@" < "$room/questions" > "$room/ours"
+split -C 1048576 --filter="$*" "$room/questions" > "$room/ours"
 if cmp -s "$room/oracle" "$room/ours"; then
     echo "$(wc -l < "$room/questions") questions, the same answers"
 else

@@ -1,12 +1,12 @@
 #!/usr/bin/env python3
-"""newer_camera.py SEED COUNT: an old reader meets a newer camera (demand 3), by running our programs `take` and `replay`.
+"""newer_camera.py SEED COUNT: an old reader meets a newer camera (demand 3), by running our programs `take` and `replay_values`.
 
 Makes COUNT payloads with groups named by containers and puts new items in front of items that the walk reaches, at any depth. Each payload is read
 three times: as it was, with the new items, and with other payload bytes in the new items. The rows that `./gpmf take` lists must be, one by one and
 in order: every old row with its group, key, type, size, repeat and depth, its bytes at its new place; and one for each new item with a payload, in the
 group of its level; and the same rows again with the other bytes. The headers must be more by one for each new outermost item and two for each
-below. Where new keys are unlike all old ones, `./gpmf replay` must also give every old entry as it was, with its value. Other commands than ./gpmf
-are given by TAKE and REPLAY in the environment. Exit 1 at a difference, with the first three."""
+below. Where new keys are unlike all old ones, `./gpmf replay_values` must also give every old entry as it was, with its value. Other commands
+than ./gpmf are given by TAKE and REPLAY_VALUES in the environment. Exit 1 at a difference, with the first three."""
 import os
 import random
 import subprocess
@@ -17,6 +17,7 @@ CONTAINER_KEYS = (b"DEVC", b"STRM", b"GYRO", b"NEST")
 TYPES = b"bBsSlLfdqQjJcFGU?xZ"
 TYPE_TEXTS = (b"B", b"ss", b"f[3]", b"L", b"Lfs", b"c[4]B")
 NEW = b"~"  # a new item's key begins so, and no old one does
+AT_ONCE = 128  # payloads below 8,000 bytes, so that their questions have no more than 2,097,152
 
 
 def fields(draw, length):
@@ -167,9 +168,11 @@ def listings(meetings):
 
 
 def entries(payloads):
-    """What `replay` answers of each payload: the entries of its map, with their values."""
-    asked = "".join(f"walk 0 {payload.hex() or '-'}\n" for payload in payloads)
-    said = subprocess.run(command("replay"), input=asked.encode(), stdout=subprocess.PIPE, check=True).stdout.decode().splitlines()
+    """What `replay_values` answers of each payload: the entries of its map, with their values; as many at once as it takes."""
+    said = []
+    for start in range(0, len(payloads), AT_ONCE):
+        asked = "".join(f"walk 0 {payload.hex() or '-'}\n" for payload in payloads[start : start + AT_ONCE])
+        said += subprocess.run(command("replay_values"), input=asked.encode(), stdout=subprocess.PIPE, check=True).stdout.decode().splitlines()
     return [[word for word in line.split(" ")[2:] if not word.split(",")[2].startswith(NEW.hex())] for line in said]
 
 

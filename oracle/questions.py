@@ -1,5 +1,5 @@
 #!/usr/bin/env python3
-"""questions.py [--seed N] [--times N] [KIND ..]: questions for the oracle and for our programs `replay` and `replay_packets`, one a line (README.md).
+"""questions.py [--seed N] [--times N] [KIND ..]: questions for the oracle and for our programs that replay them, one a line (README.md).
 
 All inputs are made up. Each kind draws from a generator of its own, started by the seed and the kind's name, so a new kind
 leaves the questions of the others as they are. --times repeats the random part: 1 for the stored list, more for a long run.
@@ -52,7 +52,7 @@ def whole_and_short(_):
 
 
 def limits(_):
-    """Sizes and repeats at their limits, with as many bytes as are wanted and with one byte less; the longest line that `replay` takes."""
+    """Sizes and repeats at their limits, with as many bytes as are wanted and with one byte less; payloads nearly as long as `replay` takes."""
     counts = (0, 1, 2, 254, 255)
     for size in counts:
         for repeat in counts + (256, 257, 32767, 32768, 65534, 65535):
@@ -533,30 +533,41 @@ def no_questions(_):
     yield from ("header 18446744073709551616 -", "header 99999999999999999999999 -", "header 00000000000000000000000000 -", "headers 0 00", "heade 0 00")
     yield from ("tag", "tag ", "tag -", "tag 4759524", "tag 4759524f4", "tag 4759524f4d", "tag 4759524F", "tag 4759524f 00", "tag +759524f", "tags 4759524f")
     yield from ("group", "group ", "group -", "group 4759524", "group 4759524f4", "group 4759524g", "group 4759524f 4759524f", "GROUP 4759524f")
-    yield from ("walk 0", "walk 2 -", "walk 00 -", "walk 1 ", "walk -", "walk 0 0", "walk 0 - -", "last", "last ", "last 0", "last - -", "expand", "expand 0", "expand 5b 5b")
+    yield from ("last", "last ", "last 0", "last - -", "expand", "expand 0", "expand 5b 5b")
     yield from ("bogus", " ", "-", "0", "unknown", "ok", "\t", "header\t0\t00", "\xe9", "tag GYRO", "")
 
 
-REPLAY = {
-    "header": lambda draw, times: [
-        *short_payloads(draw), *whole_and_short(draw), *limits(draw), *far_places(draw), *random_headers(draw, times)],
-    "tag": lambda draw, times: [f"tag {key.hex()}" for key in keys(draw, times)],
-    "group": lambda draw, times: [f"group {key.hex()}" for key in keys(draw, times)],
-    "types": every_type,
-    "numbers": special_numbers,
-    "quaternions": quaternions,
-    "dates": dates,
-    "texts": texts,
-    "expand": expansions,
-    "structures": structures,
-    "samples": lambda draw, times: description_samples(draw),
-    "walk": walks,
-    "last": last_items,
-    "none": lambda draw, times: no_questions(draw),
+def no_walks(_):
+    """Lines that are nearly a question of a walk."""
+    yield from ("walk 0", "walk 2 -", "walk 00 -", "walk 1 ", "walk -", "walk 0 0", "walk 0 - -")
+
+
+# The programs, and the kinds of questions that each answers.
+LISTS = {
+    "replay": {
+        "header": lambda draw, times: [
+            *short_payloads(draw), *whole_and_short(draw), *limits(draw), *far_places(draw), *random_headers(draw, times)],
+        "tag": lambda draw, times: [f"tag {key.hex()}" for key in keys(draw, times)],
+        "group": lambda draw, times: [f"group {key.hex()}" for key in keys(draw, times)],
+        "expand": expansions,
+        "last": last_items,
+        "none": lambda draw, times: no_questions(draw),
+    },
+    "replay_values": {
+        "types": every_type,
+        "numbers": special_numbers,
+        "quaternions": quaternions,
+        "dates": dates,
+        "texts": texts,
+        "structures": structures,
+        "samples": lambda draw, times: description_samples(draw),
+        "walk": walks,
+        "no-walk": lambda draw, times: no_walks(draw),
+    },
+    "replay_axes": {"matrix": matrices, "back": backs, "oriented": orientations},
+    "replay_packets": {"cuts": cuts, "packets": packets_read, "quat": quaternions_scaled, "stamp": stamps, "average": averages},
 }
-REPLAY_PACKETS = {"matrix": matrices, "back": backs, "cuts": cuts, "packets": packets_read, "oriented": orientations, "quat": quaternions_scaled, "stamp": stamps, "average": averages}
-LISTS = {"replay": REPLAY, "replay_packets": REPLAY_PACKETS}
-KINDS = {**REPLAY, **REPLAY_PACKETS}
+KINDS = {kind: made for kinds in LISTS.values() for kind, made in kinds.items()}
 
 
 def main():

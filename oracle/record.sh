@@ -1,10 +1,10 @@
 #!/bin/sh
-# Asks the built oracle the stored lists of questions, and stores lists and answers for the programs `replay` and `replay_packets`: record.sh
+# Asks the built oracle the stored lists of questions, and stores lists and answers for each program that replays them: record.sh
 # Where questions.py and the oracle are as they were, the files are too.
 set -eu
 cd "$(dirname "$0")"
 [ -x target/release/gpmf-oracle ] || { echo "no oracle: build it first, build.sh DOCS_SRC" >&2; exit 2; }
-for program in replay replay_packets; do
+for program in replay replay_values replay_axes replay_packets; do
     ./questions.py "$program" > "../crates/$program/stdin"
     target/release/gpmf-oracle < "../crates/$program/stdin" > "../crates/$program/stdout"
     wc -c "../crates/$program/stdin" "../crates/$program/stdout"

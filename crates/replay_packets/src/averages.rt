@@ -1,8 +1,9 @@
 // The average duration of a reading, over a list of packets in words: average COUNT:STAMP:DURATION:MISSING ..
-use crate::first;
-use crate::motion::put_double;
-use crate::questions::put_unknown;
 use crate::questions::word;
+use crate::questions::write_unknown;
+use crate::writing::first;
+use crate::writing::write;
+use crate::writing::write_double;
 use durations::Average;
 use elements::Element;
 use line::Decoded;
@@ -11,25 +12,23 @@ use line::Number;
 // The most packets of a question.
 const MOST: usize = 64;
 
-pub(crate) fn put_average(question: &[u8], out: &mut [u8], at: usize) -> usize {
+pub(crate) fn answer_average(question: &[u8]) {
     let words = line::pieces(question, b' ');
     if words > MOST {
-        return put_unknown(out, at);
+        write_unknown();
+    } else {
+        write_average(average_of(question, words));
     }
-    put_found(average_of(question, words), out, at)
 }
 
-fn put_found(average: Average, out: &mut [u8], at: usize) -> usize {
+fn write_average(average: Average) {
     match average {
         Average::Is(ms) => {
-            let ok = text::put_bytes(out, at, b"ok ");
-            put_double(ms, out, ok)
+            write(b"ok");
+            write_double(b' ', ms);
         }
-        Average::Nothing => text::put_bytes(out, at, b"none"),
-        Average::Refused {
-            number: _,
-            place: _,
-        } => text::put_bytes(out, at, b"refused"),
+        Average::Nothing => write(b"none"),
+        _ => write(b"refused"),
     }
 }
 

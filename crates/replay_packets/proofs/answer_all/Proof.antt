@@ -1,6 +1,5 @@
--- `answer_all` is safe and ends: each turn takes a line, and the output keeps its length. Assumes nothing.
+-- `answer_all` is safe and ends: each turn takes a line. Assumes nothing.
 use Prim.Native.Nat.{_-_}
-use mathlib.Core.Path.{_≡_, refl}
 use native.Mathlib.Omega.{arith}
 use borrow.Author.Needs.{needs}
 use lib.ListN.{length}
@@ -8,13 +7,13 @@ use Rattle.replay_packets.proofs.answer_all.Statement.{statement}
 use Rattle.replay_packets.proofs.answer_all.Tie as tie
 
 abbrev Inv-loop : tie.InvT-loop
-Inv-loop input output₀ laid₀ from₀ output laid from = length output ≡ length output₀
+Inv-loop input from₀ from = Unit {0}
 
 abbrev μ-loop : tie.MeasureT-loop
-μ-loop input output₀ laid₀ from₀ output laid from = length input - from
+μ-loop input from₀ from = length input - from
 
 loop-holds : tie.Need-loop-holds Inv-loop μ-loop
-loop-holds c = refl
+loop-holds c = tt
 
 sub-piece : tie.Need-sub-piece Inv-loop μ-loop
 sub-piece c = omega arith
@@ -28,8 +27,8 @@ part-piece-end c = search needs
 piece-requires : tie.Need-piece-requires Inv-loop μ-loop
 piece-requires c κs = tt
 
-answer-requires : tie.Need-answer-requires Inv-loop μ-loop
-answer-requires c κs = tt
+answer-line-requires : tie.Need-answer-line-requires Inv-loop μ-loop
+answer-line-requires c κs = tt
 
 add-from : tie.Need-add-from Inv-loop μ-loop
 add-from c = omega arith
@@ -41,10 +40,7 @@ loop-less : tie.Need-loop-less Inv-loop μ-loop
 loop-less c = omega arith
 
 loop-again : tie.Need-loop-again Inv-loop μ-loop
-loop-again c = search needs
-
-same-length : tie.Need-same-length Inv-loop μ-loop
-same-length c = c .before .loop .inv
+loop-again c = tt
 
 returns : tie.Need-returns Inv-loop μ-loop
 returns c = tt
@@ -60,10 +56,9 @@ answer-all-spec =
     part-piece-start
     part-piece-end
     piece-requires
-    answer-requires
+    answer-line-requires
     add-from
     add-from-2
     loop-less
     loop-again
-    same-length
     returns)

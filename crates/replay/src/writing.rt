@@ -1,0 +1,49 @@
+// Writes bytes and numbers to standard output.
+pub(crate) fn write(s: &[u8]) {
+    io::write_all(libc::STDOUT_FILENO, s);
+}
+
+pub(crate) fn write_byte(b: u8) {
+    let one = [b];
+    write(&one);
+}
+
+pub(crate) fn write_decimal(n: u64) {
+    let mut digits = [0u8; 20];
+    let end = text::put_decimal(&mut digits, 0, n);
+    write(first(&digits, end));
+}
+
+// A number with a space before it.
+pub(crate) fn write_number(n: u64) {
+    write_byte(b' ');
+    write_decimal(n);
+}
+
+// The last digits of a number.
+pub(crate) fn write_hex(n: u64, count: usize) {
+    let mut digits = [0u8; 16];
+    let end = text::put_hex(&mut digits, 0, n, count);
+    write(first(&digits, end));
+}
+
+// Bytes in hex.
+pub(crate) fn write_hex_bytes(s: &[u8]) {
+    let mut i: usize = 0;
+    while i < s.len() {
+        write_hex_byte(s[i]);
+        i += 1;
+    }
+}
+
+fn write_hex_byte(b: u8) {
+    write_hex(b as u64, 2);
+}
+
+// The first bytes of some, or all where there are not so many.
+pub(crate) fn first(s: &[u8], count: usize) -> &[u8] {
+    if s.len() < count {
+        return s;
+    }
+    &s[0..count]
+}

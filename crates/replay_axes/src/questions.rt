@@ -1,0 +1,201 @@
+// The questions, a function each: the answer is written, without the end of its line.
+use crate::writing::first;
+use crate::writing::write;
+use crate::writing::write_byte;
+use crate::writing::write_single;
+use axes::Axes;
+use axes::Orientation;
+use axes::Orientations;
+use elements::Element;
+use line::Decoded;
+use metadata::Metadata;
+use orientation::Oriented;
+
+const GYRO: u32 = 0x4759524f;
+
+const ACCL: u32 = 0x4143434c;
+
+const MAGN: u32 = 0x4d41474e;
+
+// The first word behind the name is in hex.
+pub(crate) fn answer(question: &[u8]) {
+    let mut bytes = byte_buffer();
+    match bytes_of(word(question, 1), &mut bytes) {
+        Decoded::Bytes(count) => answer_of(question, first(&bytes, count)),
+        _ => write_unknown(),
+    }
+}
+
+fn word(question: &[u8], index: usize) -> &[u8] {
+    line::piece(question, b' ', index)
+}
+
+fn byte_buffer() -> [u8; 8192] {
+    [0u8; 8192]
+}
+
+// The bytes that a word is in hex; `-` is none.
+fn bytes_of(word: &[u8], bytes: &mut [u8]) -> Decoded {
+    if word.len() == 0 {
+        return Decoded::NotHex;
+    }
+    if word.len() == 1 && word[0] == b'-' {
+        return Decoded::Bytes(0);
+    }
+    line::unhex(word, bytes)
+}
+
+fn write_unknown() {
+    write(b"unknown");
+}
+
+fn answer_of(question: &[u8], bytes: &[u8]) {
+    let name = word(question, 0);
+    if check::same(name, b"matrix") {
+        answer_matrix(bytes, word(question, 2));
+    } else if check::same(name, b"back") {
+        answer_back(bytes);
+    } else if check::same(name, b"oriented") {
+        answer_oriented(bytes);
+    } else {
+        write_unknown();
+    }
+}
+
+// matrix ORIN ORIO
+fn answer_matrix(orin: &[u8], hex: &[u8]) {
+    let mut orio = text_buffer();
+    match bytes_of(hex, &mut orio) {
+        Decoded::Bytes(count) => write_matrix(axes::orientations_of(orin, first(&orio, count))),
+        _ => write_unknown(),
+    }
+}
+
+fn text_buffer() -> [u8; 64] {
+    [0u8; 64]
+}
+
+fn write_matrix(orientations: Orientations) {
+    match orientations {
+        Orientations::Are { orin, orio } => write_rows(axes::orientations_to_matrix(orin, orio)),
+        _ => write(b"none"),
+    }
+}
+
+fn write_rows(matrix: [[f32; 3]; 3]) {
+    write(b"ok ");
+    write_row(b'[', matrix[0]);
+    write_row(b';', matrix[1]);
+    write_row(b';', matrix[2]);
+    write_byte(b']');
+}
+
+fn write_row(mark: u8, row: [f32; 3]) {
+    write_single(mark, row[0]);
+    write_single(b';', row[1]);
+    write_single(b';', row[2]);
+}
+
+// back HEX
+fn answer_back(bytes: &[u8]) {
+    let mut numbers = number_buffer();
+    fill(bytes, &mut numbers);
+    write_back(axes::mtrx_to_orientation(first_numbers(&numbers, bytes.len() / 4)));
+}
+
+fn write_back(orientation: Orientation) {
+    match orientation {
+        Orientation::Is(axes) => {
+            write(b"ok ");
+            write_letters(axes);
+        }
+        _ => write(b"panic"),
+    }
+}
+
+fn number_buffer() -> [f32; 16] {
+    [0.0; 16]
+}
+
+fn fill(bytes: &[u8], numbers: &mut [f32]) {
+    let mut i: usize = 0;
+    while i < numbers.len() {
+        numbers[i] = number_at(bytes, i);
+        i += 1;
+    }
+}
+
+// The i-th of sixteen numbers, 0 where its bytes are not there.
+fn number_at(bytes: &[u8], i: usize) -> f32 {
+    if i > 15 {
+        return 0.0;
+    }
+    match elements::element_at(bytes, i * 4, b'f') {
+        Element::Single(x) => x,
+        _ => 0.0,
+    }
+}
+
+fn first_numbers(s: &[f32], count: usize) -> &[f32] {
+    if s.len() < count {
+        return s;
+    }
+    &s[0..count]
+}
+
+fn write_letters(axes: Axes) {
+    let letters = [axes.first, axes.second, axes.third];
+    write(&letters);
+}
+
+// oriented HEX
+fn answer_oriented(payload: &[u8]) {
+    let mut rows = row_buffer();
+    match metadata::parse_metadata(payload, false, &mut rows) {
+        Metadata::Rows {
+            rows: count,
+            headers: _,
+        } => write_oriented(payload, &rows, count),
+        _ => write(b"err"),
+    }
+}
+
+fn row_buffer() -> [u32; 16384] {
+    [0u32; 16384]
+}
+
+// Where the Rust panics, some group is refused.
+fn write_oriented(payload: &[u8], rows: &[u32], count: usize) {
+    let gyroscope = orientation::orientation_of_group(payload, rows, count, 1, GYRO);
+    let accelerometer = orientation::orientation_of_group(payload, rows, count, 1, ACCL);
+    let magnetometer = orientation::orientation_of_group(payload, rows, count, 1, MAGN);
+    if is_refused(gyroscope) || is_refused(accelerometer) || is_refused(magnetometer) {
+        write(b"panic");
+    } else {
+        write_groups(gyroscope, accelerometer, magnetometer);
+    }
+}
+
+fn write_groups(gyroscope: Oriented, accelerometer: Oriented, magnetometer: Oriented) {
+    write(b"ok");
+    write_axes(gyroscope, b" GYRO=");
+    write_axes(accelerometer, b" ACCL=");
+    write_axes(magnetometer, b" MAGN=");
+}
+
+fn is_refused(oriented: Oriented) -> bool {
+    match oriented {
+        Oriented::Refused {
+            number: _,
+            place: _,
+        } => true,
+        _ => false,
+    }
+}
+
+fn write_axes(oriented: Oriented, name: &[u8]) {
+    if let Oriented::Is(axes) = oriented {
+        write(name);
+        write_letters(axes);
+    }
+}

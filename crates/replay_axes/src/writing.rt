@@ -1,0 +1,31 @@
+// Writes bytes and numbers to standard output.
+pub(crate) fn write(s: &[u8]) {
+    io::write_all(libc::STDOUT_FILENO, s);
+}
+
+pub(crate) fn write_byte(b: u8) {
+    let one = [b];
+    write(&one);
+}
+
+// The last digits of a number.
+pub(crate) fn write_hex(n: u64, count: usize) {
+    let mut digits = [0u8; 16];
+    let end = text::put_hex(&mut digits, 0, n, count);
+    write(first(&digits, end));
+}
+
+// An f32 by its bits, behind a mark.
+pub(crate) fn write_single(mark: u8, x: f32) {
+    write_byte(mark);
+    write_byte(b'f');
+    write_hex(float_bits::single_bits(x) as u64, 8);
+}
+
+// The first bytes of some, or all where there are not so many.
+pub(crate) fn first(s: &[u8], count: usize) -> &[u8] {
+    if s.len() < count {
+        return s;
+    }
+    &s[0..count]
+}
