@@ -6,11 +6,16 @@ use crate::model;
 use crate::published_side::caught;
 use crate::tally::{Call, Listed, Ours, Outcome, Tally, Theirs, holds, ours, same};
 use published::SampleInfo;
-use published::gopro::{GoPro, klv::{KLV, probe}};
+use published::gopro::{
+    GoPro,
+    klv::{KLV, probe},
+};
 use published::plain::{double, single};
 use published::tags_impl::{GroupId, Quaternion};
 
-fn latin1(text: &[u8]) -> String { text.iter().map(|&c| c as char).collect() }
+fn latin1(text: &[u8]) -> String {
+    text.iter().map(|&c| c as char).collect()
+}
 
 // ---- texts
 
@@ -35,9 +40,15 @@ pub fn type_text(text: &[u8], tally: &mut Tally) -> Outcome {
 pub fn date(text: &[u8], tally: &mut Tally) -> Outcome {
     let theirs = caught(|| probe::date(text).ok());
     let answer = library::parse_utcdate(text);
-    let side = match theirs { None => Theirs::Panic, Some(None) => Theirs::Error, Some(Some(_)) => Theirs::Answer };
+    let side = match theirs {
+        None => Theirs::Panic,
+        Some(None) => Theirs::Error,
+        Some(Some(_)) => Theirs::Answer,
+    };
     tally.call(Call::ParseUtcdate, side, ours(answer.kind));
-    if side == Theirs::Panic { tally.listed(Listed::DatePanic); }
+    if side == Theirs::Panic {
+        tally.listed(Listed::DatePanic);
+    }
     match theirs.flatten() {
         Some(ms) => same("parse_utcdate", &(IS, ms), &(answer.kind, answer.value)),
         None => same("parse_utcdate, the refusal", &(REFUSED, if text.len() < 16 { 6 } else { 7 }, 0), &(answer.kind, answer.number, answer.place)),
@@ -52,11 +63,15 @@ pub fn utf8(text: &[u8], size: usize, tally: &mut Tally) -> Outcome {
     same("is_utf8", &is_utf8(text), &library::is_utf8(text))?;
     same("utf8_len", &kept(text), &library::utf8_len(text))?;
     same("latin1_len", &latin1(text).trim_end_matches('\0').chars().count(), &library::latin1_len(text))?;
-    if size == 0 { return Ok(()); } // the Rust's chunks would panic; no item has such texts
+    if size == 0 {
+        return Ok(());
+    } // the Rust's chunks would panic; no item has such texts
     same("are_utf8", &text.chunks(size).all(|t| is_utf8(&t[..kept(t)])), &library::are_utf8(text, size))
 }
 
-pub fn key(key: u32, tally: &mut Tally) -> Outcome { compare::keys(key, tally) }
+pub fn key(key: u32, tally: &mut Tally) -> Outcome {
+    compare::keys(key, tally)
+}
 
 // ---- axes
 
@@ -77,13 +92,17 @@ pub fn axes(orin: &[u8], orio: &[u8], tally: &mut Tally) -> Outcome {
     back(&matrix, tally)
 }
 
-fn bits(numbers: Vec<f32>) -> Vec<published::plain::Plain> { numbers.into_iter().map(single).collect() }
+fn bits(numbers: Vec<f32>) -> Vec<published::plain::Plain> {
+    numbers.into_iter().map(single).collect()
+}
 
 pub fn back(numbers: &[f32], tally: &mut Tally) -> Outcome {
     let theirs = caught(|| probe::back(numbers));
     let answer = library::mtrx_to_orientation(numbers);
     tally.call(Call::Back, if theirs.is_some() { Theirs::Answer } else { Theirs::Panic }, ours(answer.kind));
-    if let Ok(entries) = numbers.try_into() { same("matrix_to_orientation", &answer, &library::matrix_to_orientation(Matrix { entries }))?; }
+    if let Ok(entries) = numbers.try_into() {
+        same("matrix_to_orientation", &answer, &library::matrix_to_orientation(Matrix { entries }))?;
+    }
     match theirs {
         Some(axes) => same("mtrx_to_orientation", &(IS, axes), &(answer.kind, letters(answer.axes))),
         None => {
@@ -108,12 +127,19 @@ pub fn quaternion(numbers: [i16; 4], scale: f64, tally: &mut Tally) -> Outcome {
 
 /// A packet of a duration list: its readings, its stamp in µs, its duration and its place on the track in ms.
 #[derive(Clone, Copy, Debug)]
-pub struct Timed { pub count: u32, pub stamp: Option<u64>, pub duration: f64, pub at: f64 }
+pub struct Timed {
+    pub count: u32,
+    pub stamp: Option<u64>,
+    pub duration: f64,
+    pub at: f64,
+}
 
 /// A payload of so many readings of GYRO, with a STMP where there is a stamp, in the caller's group.
 fn sample(packet: &Timed) -> SampleInfo {
     let mut payload = Vec::new();
-    if let Some(us) = packet.stamp { payload.extend([b"STMPJ\x08\0\x01".as_slice(), &us.to_be_bytes()].concat()); }
+    if let Some(us) = packet.stamp {
+        payload.extend([b"STMPJ\x08\0\x01".as_slice(), &us.to_be_bytes()].concat());
+    }
     payload.extend([b"GYROs\x06".as_slice(), &(packet.count as u16).to_be_bytes()].concat());
     payload.resize(payload.len() + packet.count as usize * 6, 0);
     let tag_map = GoPro::parse_metadata(&payload, GroupId::Default, false, &Default::default()).ok();
@@ -126,12 +152,20 @@ pub fn average(packets: &[Timed], tally: &mut Tally) -> Outcome {
     let mut last: Option<usize> = None;
     let mut missing = vec![0u8; packets.len()];
     for (n, packet) in packets.iter().enumerate().filter(|_| readable) {
-        if let Some(l) = last { missing[n] = (probe::missing(&samples[l], &samples[n]) != 0.0) as u8; }
-        if packet.stamp.is_some() { last = Some(n); }
+        if let Some(l) = last {
+            missing[n] = (probe::missing(&samples[l], &samples[n]) != 0.0) as u8;
+        }
+        if packet.stamp.is_some() {
+            last = Some(n);
+        }
     }
     let answer = asked(packets, &missing);
     let theirs = readable.then(|| probe::avg(&samples, &GroupId::Default));
-    let side = match theirs { None => Theirs::Outside, Some(None) => Theirs::Nothing, Some(Some(_)) => Theirs::Answer };
+    let side = match theirs {
+        None => Theirs::Outside,
+        Some(None) => Theirs::Nothing,
+        Some(Some(_)) => Theirs::Answer,
+    };
     tally.call(Call::Average, side, ours(answer.kind));
     match (theirs, answer.kind) {
         (_, REFUSED) => over_limits(packets, answer, tally),
@@ -152,11 +186,17 @@ fn asked(packets: &[Timed], missing: &[u8]) -> library::RealAnswer {
 /// A list that is refused with 11 is over one of the limits.
 fn over_limits(packets: &[Timed], answer: library::RealAnswer, tally: &mut Tally) -> Outcome {
     let any = |over: fn(&Timed) -> bool| packets.iter().any(over);
-    let entry = if packets.len() > 2048 { Listed::Packets }
-        else if any(|p| p.count > 65_535) { Listed::Readings }
-        else if any(|p| p.stamp.is_some_and(|us| us >= 1 << 42)) { Listed::Stamp }
-        else if any(|p| !p.duration.is_finite()) { Listed::Finite }
-        else { return Err(format!("get_avg_sample_duration: a list within the limits is refused: {answer:?}")) };
+    let entry = if packets.len() > 2048 {
+        Listed::Packets
+    } else if any(|p| p.count > 65_535) {
+        Listed::Readings
+    } else if any(|p| p.stamp.is_some_and(|us| us >= 1 << 42)) {
+        Listed::Stamp
+    } else if any(|p| !p.duration.is_finite()) {
+        Listed::Finite
+    } else {
+        return Err(format!("get_avg_sample_duration: a list within the limits is refused: {answer:?}"));
+    };
     tally.listed(entry);
     same("get_avg_sample_duration, the refusal", &(REFUSED, 11, 0), &(answer.kind, answer.number, answer.place))
 }

@@ -1,6 +1,6 @@
 //! A payload beside the Rust: the reading with both forcings, its rows, its last item, its headers.
 use crate::draw::Draw;
-use crate::library::{self, IS, MOST_BYTES, MOST_ROWS, MetadataAnswer, NO_TYPE, NOTHING, REFUSED, Row};
+use crate::library::{self, IS, MOST_BYTES, MOST_ROWS, MetadataAnswer, NOTHING, REFUSED};
 use crate::model::{self, Refusal};
 use crate::published_side::{self, Walked, group, key_number};
 use crate::tally::{Call, Listed, Ours, Outcome, Tally, Theirs, holds, ours, same};
@@ -15,7 +15,9 @@ pub fn payload(bytes: &[u8], tally: &mut Tally) -> Outcome {
         tally.outside += 1;
         return alone(bytes, tally);
     }
-    for forced in [false, true] { reading(bytes, forced, &mut draw, tally).map_err(|what| format!("forced {forced}: {what}"))?; }
+    for forced in [false, true] {
+        reading(bytes, forced, &mut draw, tally).map_err(|what| format!("forced {forced}: {what}"))?;
+    }
     last_item(bytes, &mut draw, tally)?;
     headers(bytes, &mut draw, tally)
 }
@@ -41,7 +43,9 @@ fn reading(bytes: &[u8], forced: bool, draw: &mut Draw, tally: &mut Tally) -> Ou
     let theirs = if walked.map.is_some() { Theirs::Answer } else { Theirs::Error };
     tally.call(Call::ParseMetadata, theirs, ours(answer.kind));
     by_document(bytes, forced, answer, &rows, tally)?;
-    if needed > 0 && draw.chance(25) { small_room(bytes, forced, needed.min(MOST_ROWS) - 1, draw, tally)?; }
+    if needed > 0 && draw.chance(25) {
+        small_room(bytes, forced, needed.min(MOST_ROWS) - 1, draw, tally)?;
+    }
     match (theirs, answer.kind) {
         (Theirs::Answer, IS) => accepted(bytes, forced, &walked, answer, &rows, draw, tally),
         (Theirs::Error, REFUSED) => Ok(()),
@@ -52,7 +56,9 @@ fn reading(bytes: &[u8], forced: bool, draw: &mut Draw, tally: &mut Tally) -> Ou
 
 /// The library's answer is document 01's: rows, headers, or the refusal's number and place; what was lent beyond is as it was.
 fn by_document(bytes: &[u8], forced: bool, answer: MetadataAnswer, rows: &[u32], tally: &mut Tally) -> Outcome {
-    match model::walk(bytes, forced, library::room(rows.len())) {
+    let room = (rows.len() / 8).min(MOST_ROWS);
+    same("room", &room, &library::room(rows.len()))?;
+    match model::walk(bytes, forced, room) {
         Err(Refusal { number, place }) => {
             same("parse_metadata, the refusal", &MetadataAnswer { kind: REFUSED, number, place, rows: 0, headers: 0 }, &answer)?;
             holds(library::untouched_behind(rows, 0), || "a refusal wrote rows".into())?;
@@ -103,7 +109,9 @@ fn deepest(level: &[u8]) -> u32 {
     let (mut at, mut most) = (0, 0);
     while at + 8 <= level.len() {
         let end = at + 8 + model::length(level, at);
-        if level[at + 4] == 0 && end > at + 8 && end <= level.len() { most = most.max(1 + deepest(&level[at + 8..end])); }
+        if level[at + 4] == 0 && end > at + 8 && end <= level.len() {
+            most = most.max(1 + deepest(&level[at + 8..end]));
+        }
         at = at + 8 + (end - at - 8).next_multiple_of(4);
     }
     most
@@ -116,7 +124,9 @@ fn accepted(bytes: &[u8], forced: bool, walked: &Walked, answer: MetadataAnswer,
         row(bytes, rows, n, item, draw, tally).map_err(|what| format!("row {n}: {what}"))?;
     }
     groups::lookups(bytes, walked, rows, draw, tally)?;
-    if forced { return Ok(()); }
+    if forced {
+        return Ok(());
+    }
     groups::payload(bytes, walked.map.as_ref().expect("an accepted reading"), rows, answer.rows, tally)
 }
 
@@ -146,7 +156,9 @@ pub fn keys(key: u32, tally: &mut Tally) -> Outcome {
 fn last_item(bytes: &[u8], draw: &mut Draw, tally: &mut Tally) -> Outcome {
     chain(bytes, 0, library::get_last_klv(bytes), Call::GetLastKlv, tally)?;
     let from = draw.below(bytes.len() + 1);
-    if bytes.len() <= MOST_BYTES { chain(bytes, from, library::last_item(bytes, from), Call::LastItem, tally)?; }
+    if bytes.len() <= MOST_BYTES {
+        chain(bytes, from, library::last_item(bytes, from), Call::LastItem, tally)?;
+    }
     Ok(())
 }
 
@@ -154,7 +166,11 @@ fn last_item(bytes: &[u8], draw: &mut Draw, tally: &mut Tally) -> Outcome {
 fn chain(bytes: &[u8], from: usize, answer: library::ItemAnswer, call: Call, tally: &mut Tally) -> Outcome {
     let theirs = GoPro::get_last_klv(&bytes[from..]).ok();
     let place = theirs.map(|slice| slice.as_ptr() as usize - bytes.as_ptr() as usize);
-    let side = match theirs { None => Theirs::Error, Some([]) => Theirs::Nothing, Some(_) => Theirs::Answer };
+    let side = match theirs {
+        None => Theirs::Error,
+        Some([]) => Theirs::Nothing,
+        Some(_) => Theirs::Answer,
+    };
     tally.call(call, side, ours(answer.kind));
     match (side, answer.kind) {
         (Theirs::Answer, REFUSED) if bytes.len() > MOST_BYTES && (answer.number, answer.place) == (1, 0) => tally.listed(Listed::Bytes),
@@ -184,10 +200,14 @@ pub fn header_at(bytes: &[u8], at: usize) -> library::Klv {
 /// The header at each place of a short payload and behind its end; of a longer one at some places.
 fn headers(bytes: &[u8], draw: &mut Draw, tally: &mut Tally) -> Outcome {
     if bytes.len() <= 24 {
-        for place in 0..bytes.len() + 3 { header(bytes, place, tally)?; }
+        for place in 0..bytes.len() + 3 {
+            header(bytes, place, tally)?;
+        }
         return header(bytes, draw.next() as usize >> draw.below(64), tally);
     }
-    for _ in 0..3 { header(bytes, draw.below(bytes.len() + 8), tally)?; }
+    for _ in 0..3 {
+        header(bytes, draw.below(bytes.len() + 8), tally)?;
+    }
     Ok(())
 }
 
@@ -207,8 +227,9 @@ fn header(bytes: &[u8], place: usize, tally: &mut Tally) -> Outcome {
     let found = answer.klv;
     let is_text = matches!(klv.parse_data(&bytes[place..place + 8 + klv.data_len()]), TagValue::String(_));
     same("is_one_text and is_type_text", &(is_text, is_text && klv.key == *b"TYPE"), &(library::is_one_text(found), library::is_type_text(found)))?;
-    same("parse_header", &expected, &(answer.kind, found.key, found.data_type, found.size as usize, found.repeat as usize, library::data_len(found), library::aligned_data_len(found)))
+    same(
+        "parse_header",
+        &expected,
+        &(answer.kind, found.key, found.data_type, found.size as usize, found.repeat as usize, library::data_len(found), library::aligned_data_len(found)),
+    )
 }
-
-/// The place of a row's TYPE as a value read takes it.
-pub fn type_at(row: Row) -> usize { if row.type_place == NO_TYPE { NO_TYPE as usize } else { row.type_place as usize } }

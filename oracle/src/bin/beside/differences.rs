@@ -5,7 +5,10 @@ use crate::items::{container, header, nested, one};
 use crate::library::{self, IS, NOTHING, REFUSED};
 use crate::published_side::{self, caught};
 use crate::tally::{Listed, Outcome, Tally, same};
-use published::gopro::{GoPro, klv::{KLV, probe}};
+use published::gopro::{
+    GoPro,
+    klv::{KLV, probe},
+};
 use published::plain::{Plain, ReadBack, double};
 use published::tags_impl::{GroupId, TagId, TagValue, probe_rows};
 
@@ -21,7 +24,10 @@ fn bytes(text: &str) -> Vec<u8> {
 fn their_value(payload: &[u8]) -> ReadBack {
     let item = published_side::walk(payload, false).items.pop().expect("a row");
     let (variant, _, rows) = probe_rows(&item.value);
-    match rows { ReadBack::Is(rows) if variant == "Vec_Scalar" => ReadBack::Is(vec![rows.concat()]), other => other }
+    match rows {
+        ReadBack::Is(rows) if variant == "Vec_Scalar" => ReadBack::Is(vec![rows.concat()]),
+        other => other,
+    }
 }
 
 /// The same by the library: its rows, or its refusal's number.
@@ -30,11 +36,15 @@ fn our_value(payload: &[u8]) -> Result<Vec<Vec<Plain>>, u32> {
     let row = library::row_at(&rows, answer.rows - 1).row;
     let (place, type_place) = (row.place as usize, row.type_place as usize);
     let shape = library::shape_at(payload, place, type_place);
-    if shape.kind == REFUSED { return Err(shape.number); }
-    Ok((0..shape.rows).map(|r| {
-        let columns = library::columns_at(payload, place, type_place, r).value as usize;
-        (0..columns).map(|c| library::element(payload, place, type_place, r, c).element.plain()).collect()
-    }).collect())
+    if shape.kind == REFUSED {
+        return Err(shape.number);
+    }
+    Ok((0..shape.rows)
+        .map(|r| {
+            let columns = library::columns_at(payload, place, type_place, r).value as usize;
+            (0..columns).map(|c| library::element(payload, place, type_place, r, c).element.plain()).collect()
+        })
+        .collect())
 }
 
 /// Both read the same value of a payload's last row.
@@ -48,7 +58,15 @@ fn both_read(payload: &str, expected: Vec<Vec<Plain>>) -> Outcome {
 /// The Rust fails or panics at a value, and the library refuses it with a number.
 fn refused_value(payload: &str, panics: bool, number: u32) -> Outcome {
     let payload = bytes(payload);
-    same("whether the Rust panics", &panics, &match their_value(&payload) { ReadBack::Panicked => true, ReadBack::Failed => false, ReadBack::Is(_) => return Err("the Rust reads it".into()) })?;
+    same(
+        "whether the Rust panics",
+        &panics,
+        &match their_value(&payload) {
+            ReadBack::Panicked => true,
+            ReadBack::Failed => false,
+            ReadBack::Is(_) => return Err("the Rust reads it".into()),
+        },
+    )?;
     same("the value's refusal", &Err(number), &our_value(&payload))
 }
 
@@ -62,8 +80,22 @@ fn over_limit(payload: &[u8], rows: usize, headers: usize, number: u32, place: u
 
 /// A duration list: what the Rust answers, and a refusal with 11 that falls under an entry.
 fn refused_list(packets: &[Timed], theirs: Option<f64>, entry: Listed) -> Outcome {
-    let payload = |p: &Timed| [p.stamp.map_or(Vec::new(), |us| one(b"STMP", b'J', &us.to_be_bytes())), crate::items::item(b"GYRO", b's', 6, p.count as usize, &vec![0; 6 * p.count as usize])].concat();
-    let samples = packets.iter().map(|p| published::SampleInfo { timestamp_ms: p.at, duration_ms: p.duration, tag_map: published_side::walk(&payload(p), false).map, ..Default::default() }).collect();
+    let payload = |p: &Timed| {
+        [
+            p.stamp.map_or(Vec::new(), |us| one(b"STMP", b'J', &us.to_be_bytes())),
+            crate::items::item(b"GYRO", b's', 6, p.count as usize, &vec![0; 6 * p.count as usize]),
+        ]
+        .concat()
+    };
+    let samples = packets
+        .iter()
+        .map(|p| published::SampleInfo {
+            timestamp_ms: p.at,
+            duration_ms: p.duration,
+            tag_map: published_side::walk(&payload(p), false).map,
+            ..Default::default()
+        })
+        .collect();
     same("the Rust's average", &theirs.map(double), &probe::avg(&samples, &GroupId::Default).map(double))?;
     listed_alone(entry, &Input::Average(packets.to_vec()))
 }
@@ -75,10 +107,16 @@ fn listed_among(entries: &[Listed], input: &Input) -> Outcome {
     let met: Vec<Listed> = Listed::ALL.iter().copied().filter(|l| tally.listed[*l as usize] > 0 && *l != Listed::TwoFindings).collect();
     same("the entries that an input falls under", &entries.to_vec(), &met)
 }
-fn listed_alone(entry: Listed, input: &Input) -> Outcome { listed_among(&[entry], input) }
+fn listed_alone(entry: Listed, input: &Input) -> Outcome {
+    listed_among(&[entry], input)
+}
 
-fn text(letters: &[u8]) -> Vec<Vec<Plain>> { vec![letters.iter().map(|b| Plain::Unsigned(*b as u64)).collect()] }
-fn unsigned(rows: &[&[u64]]) -> Vec<Vec<Plain>> { rows.iter().map(|row| row.iter().map(|n| Plain::Unsigned(*n)).collect()).collect() }
+fn text(letters: &[u8]) -> Vec<Vec<Plain>> {
+    vec![letters.iter().map(|b| Plain::Unsigned(*b as u64)).collect()]
+}
+fn unsigned(rows: &[&[u64]]) -> Vec<Vec<Plain>> {
+    rows.iter().map(|row| row.iter().map(|n| Plain::Unsigned(*n)).collect()).collect()
+}
 
 // ---- the entries
 
@@ -91,7 +129,10 @@ fn divisor_of_q() -> Outcome {
 fn size_against_widths() -> Outcome {
     both_read("54595045 63 01 0001 42 000000 41424344 3f 02 0002 01020304", unsigned(&[&[1], &[2]]))?;
     both_read("41424344 53 03 0002 0001ff0002ff 0000", unsigned(&[&[1], &[65280]]))?;
-    both_read("434f5249 73 0a 0002 0001000200030004000500060007000800090000", [[1, 2, 3, 4], [5, 6, 7, 8]].iter().map(|row| row.iter().map(|n| Plain::Signed(*n)).collect()).collect())
+    both_read(
+        "434f5249 73 0a 0002 0001000200030004000500060007000800090000",
+        [[1, 2, 3, 4], [5, 6, 7, 8]].iter().map(|row| row.iter().map(|n| Plain::Signed(*n)).collect()).collect(),
+    )
 }
 
 fn magn_has_no_tag() -> Outcome {
@@ -135,7 +176,10 @@ fn limits_of_payloads() -> Outcome {
 
 fn limit_of_types() -> Outcome {
     same("how many letters the Rust has", &257, &probe::expand("f[257]").len())?;
-    same("resolve_custom_type", &(REFUSED, 8), &{ let (answer, _) = library::resolve_custom_type(b"f[257]"); (answer.kind, answer.number) })?;
+    same("resolve_custom_type", &(REFUSED, 8), &{
+        let (answer, _) = library::resolve_custom_type(b"f[257]");
+        (answer.kind, answer.number)
+    })?;
     listed_alone(Listed::LongType, &Input::TypeText(b"f[257]".to_vec()))
 }
 
@@ -154,14 +198,19 @@ fn panics() -> Outcome {
     }
     for numbers in [vec![0.0; 9], vec![1.0]] {
         same("the Rust's axes", &None, &caught(|| probe::back(&numbers)))?;
-        same("mtrx_to_orientation", &(REFUSED, 10), &{ let answer = library::mtrx_to_orientation(&numbers); (answer.kind, answer.number) })?;
+        same("mtrx_to_orientation", &(REFUSED, 10), &{
+            let answer = library::mtrx_to_orientation(&numbers);
+            (answer.kind, answer.number)
+        })?;
         listed_alone(Listed::MatrixPanic, &Input::Matrix(numbers))?;
     }
     Ok(())
 }
 
 /// A stream of a GYRO reading behind other items.
-fn gyro_stream(items: Vec<u8>) -> Vec<u8> { container(b"STRM", &[items, one(b"GYRO", b'B', &[0])].concat()) }
+fn gyro_stream(items: Vec<u8>) -> Vec<u8> {
+    container(b"STRM", &[items, one(b"GYRO", b'B', &[0])].concat())
+}
 
 /// A group's stamp by both: the Rust's, none where it panics; the library's value, or its refusal's number.
 fn stamps(payload: &[u8]) -> (Option<Option<i64>>, Result<u64, u32>) {
@@ -198,7 +247,14 @@ fn padding_and_left_over() -> Outcome {
     same("the Rust's reading of one byte", &(true, 0, 0), &(walked.map.is_some(), walked.items.len(), walked.headers))?;
     let (answer, _) = library::read(&[0], false, 8);
     same("the reading of one byte", &(IS, 0, 0), &(answer.kind, answer.rows, answer.headers))?;
-    same("the chain", &(true, (REFUSED, 3)), &(GoPro::get_last_klv(&[0]).is_err(), { let answer = library::get_last_klv(&[0]); (answer.kind, answer.number) }))
+    same(
+        "the chain",
+        &(true, (REFUSED, 3)),
+        &(GoPro::get_last_klv(&[0]).is_err(), {
+            let answer = library::get_last_klv(&[0]);
+            (answer.kind, answer.number)
+        }),
+    )
 }
 
 fn texts_not_ascii() -> Outcome {
@@ -214,7 +270,9 @@ fn written_out(letters: &[u8], expected: &[u8]) -> Outcome {
     same("resolve_custom_type", &expected, &&out[..answer.value as usize])
 }
 
-fn count_of_zero() -> Outcome { written_out(b"f[0]", b"f") }
+fn count_of_zero() -> Outcome {
+    written_out(b"f[0]", b"f")
+}
 
 fn texts_in_structures() -> Outcome {
     both_read("54595045 63 01 0002 4666 0000 41424344 3f 08 0001 534e4f57 3f000000", vec![vec![Plain::Single(0x534e_4f57)]])
@@ -228,7 +286,10 @@ fn several_in_one() -> Outcome {
 fn signs_in_dates() -> Outcome {
     for (date, ms) in [(b"-91231235959.999", 694_223_999_999), (b"240229120000x000", 1_709_208_000_000)] {
         same("the Rust's date", &Some(ms), &probe::date(date).ok())?;
-        same("parse_utcdate", &(IS, ms), &{ let answer = library::parse_utcdate(date); (answer.kind, answer.value) })?;
+        same("parse_utcdate", &(IS, ms), &{
+            let answer = library::parse_utcdate(date);
+            (answer.kind, answer.value)
+        })?;
     }
     Ok(())
 }
@@ -251,13 +312,19 @@ fn brackets() -> Outcome {
 
 fn other_axes() -> Outcome {
     same("the Rust's matrix", &Some(vec![1.0]), &KLV::orientations_to_matrix("X", "X"))?;
-    same("orientations_of", &(REFUSED, 9), &{ let answer = library::orientations_of(b"X", b"X"); (answer.kind, answer.number) })?;
+    same("orientations_of", &(REFUSED, 9), &{
+        let answer = library::orientations_of(b"X", b"X");
+        (answer.kind, answer.number)
+    })?;
     listed_alone(Listed::Axes, &Input::Axes(b"X".to_vec(), b"X".to_vec()))?;
     let payload = gyro_stream([one(b"ORIN", b'c', b"\xe9YZ"), one(b"ORIO", b'c', b"\xe9YZ")].concat());
     let map = published_side::walk(&payload, false).map.expect("an accepted reading");
     same("the Rust's axes", &Some("XYZ".to_string()), &probe::oriented_group(&GroupId::Gyroscope, &map[&GroupId::Gyroscope]))?;
     let (answer, rows) = library::read(&payload, false, 80);
-    same("orientation_of_group", &(REFUSED, 9), &{ let axes = library::orientation_of_group(&payload, &rows, answer.rows, 1, u32::from_be_bytes(*b"GYRO")); (axes.kind, axes.number) })?;
+    same("orientation_of_group", &(REFUSED, 9), &{
+        let axes = library::orientation_of_group(&payload, &rows, answer.rows, 1, u32::from_be_bytes(*b"GYRO"));
+        (axes.kind, axes.number)
+    })?;
     listed_alone(Listed::Axes, &Input::Payload(payload))
 }
 
@@ -265,7 +332,11 @@ fn devc_inside() -> Outcome {
     let file = bytes("44455643 00 01 000c 41414141 63 01 0004 44455643");
     same("the Rust's packets", &Some(0), &probe::cut_file(&file).ok().map(|maps| maps.len()))?;
     let answer = library::next_metadata(library::packets_new(0), &file, false, &mut [0; 8]);
-    same("the packet", &((8, 16), (REFUSED, 2, 0)), &((answer.packet.start, answer.packet.end), (answer.metadata.kind, answer.metadata.number, answer.metadata.place)))?;
+    same(
+        "the packet",
+        &((8, 16), (REFUSED, 2, 0)),
+        &((answer.packet.start, answer.packet.end), (answer.metadata.kind, answer.metadata.number, answer.metadata.place)),
+    )?;
     same("the next", &NOTHING, &library::next_metadata(answer.rest, &file, false, &mut [0; 8]).kind)?;
     listed_alone(Listed::Told, &Input::File(file))
 }
@@ -275,7 +346,10 @@ fn short_quaternions_and_stamps() -> Outcome {
     let map = published_side::walk(&payload, false).map.expect("an accepted reading");
     same("how many quaternions the Rust has", &Some(0), &probe::quaternions(&map[&GroupId::CameraOrientation]).map(|list| list.len()))?;
     let (answer, rows) = library::read(&payload, false, 8);
-    same("scaled_quaternion", &(REFUSED, 6), &{ let q = library::scaled_quaternion(&payload, &rows, answer.rows, 1, u32::from_be_bytes(*b"CORI"), 0); (q.kind, q.number) })?;
+    same("scaled_quaternion", &(REFUSED, 6), &{
+        let q = library::scaled_quaternion(&payload, &rows, answer.rows, 1, u32::from_be_bytes(*b"CORI"), 0);
+        (q.kind, q.number)
+    })?;
     listed_alone(Listed::ShortQuaternions, &Input::Payload(payload))?;
     let payload = gyro_stream(bytes("53544d50 4a 08 0001 8000000000000000"));
     same("the stamps", &(Some(Some(i64::MIN)), Ok(1 << 63)), &stamps(&payload))?;
@@ -298,19 +372,38 @@ fn axes_of_unread_values() -> Outcome {
 }
 
 const ENTRIES: [(&str, fn() -> Outcome); 23] = [
-    ("1, the divisor of Q", divisor_of_q), ("2, size against the widths of letters", size_against_widths), ("3, MAGN has a group and no tag", magn_has_no_tag),
-    ("4, impossible dates", impossible_dates), ("5, a negation that a debug build stops at", negation), ("6, limits of a payload", limits_of_payloads), ("6, the limit of a type", limit_of_types),
-    ("6, limits of a duration list", limits_of_lists), ("7, where the Rust panics", panics), ("8, a stamp whose date is not readable", stamps_of_dates), ("9, one error for two findings", two_findings),
-    ("10, padding that is not there, and bytes left over", padding_and_left_over), ("11, texts that are not ASCII", texts_not_ascii), ("12, x[0] in a TYPE", count_of_zero),
-    ("13, texts, identifiers and dates inside a structure", texts_in_structures), ("14, several keys, identifiers or dates in one item", several_in_one), ("15, signs in a date", signs_in_dates),
-    ("16, the bits of a NaN", bits_of_nan), ("17, brackets in a TYPE", brackets), ("18, axes that are not three ASCII characters", other_axes), ("19, DEVC inside a packet", devc_inside),
-    ("20, quaternions with too few bytes, and stamps of 2^63 or more", short_quaternions_and_stamps), ("21, axes out of a value that cannot be read", axes_of_unread_values),
+    ("1, the divisor of Q", divisor_of_q),
+    ("2, size against the widths of letters", size_against_widths),
+    ("3, MAGN has a group and no tag", magn_has_no_tag),
+    ("4, impossible dates", impossible_dates),
+    ("5, a negation that a debug build stops at", negation),
+    ("6, limits of a payload", limits_of_payloads),
+    ("6, the limit of a type", limit_of_types),
+    ("6, limits of a duration list", limits_of_lists),
+    ("7, where the Rust panics", panics),
+    ("8, a stamp whose date is not readable", stamps_of_dates),
+    ("9, one error for two findings", two_findings),
+    ("10, padding that is not there, and bytes left over", padding_and_left_over),
+    ("11, texts that are not ASCII", texts_not_ascii),
+    ("12, x[0] in a TYPE", count_of_zero),
+    ("13, texts, identifiers and dates inside a structure", texts_in_structures),
+    ("14, several keys, identifiers or dates in one item", several_in_one),
+    ("15, signs in a date", signs_in_dates),
+    ("16, the bits of a NaN", bits_of_nan),
+    ("17, brackets in a TYPE", brackets),
+    ("18, axes that are not three ASCII characters", other_axes),
+    ("19, DEVC inside a packet", devc_inside),
+    ("20, quaternions with too few bytes, and stamps of 2^63 or more", short_quaternions_and_stamps),
+    ("21, axes out of a value that cannot be read", axes_of_unread_values),
 ];
 
 /// Every entry is as it says; each that is not is told.
 pub fn all_shown() -> bool {
-    let failed: Vec<String> = ENTRIES.iter().filter_map(|(name, test)| test().err().map(|why| format!("entry {name}: {why}"))).collect();
-    for line in &failed { println!("{line}"); }
+    let outcome = |test: &fn() -> Outcome| caught(test).unwrap_or_else(|| Err("its test panics: an answer is of another kind".into()));
+    let failed: Vec<String> = ENTRIES.iter().filter_map(|(name, test)| outcome(test).err().map(|why| format!("entry {name}: {why}"))).collect();
+    for line in &failed {
+        println!("{line}");
+    }
     println!("{} of {} tests of docs/DIFFERENCES.md are as its entries say", ENTRIES.len() - failed.len(), ENTRIES.len());
     failed.is_empty()
 }

@@ -10,7 +10,9 @@ impl Draw {
         Draw(draw.next() ^ number)
     }
     /// One that follows from bytes, so that the same input is always asked the same.
-    pub fn of(bytes: &[u8]) -> Draw { Draw(bytes.iter().fold(bytes.len() as u64, |sum, &b| (sum ^ b as u64).wrapping_mul(0x0000_0100_0000_01b3))) }
+    pub fn of(bytes: &[u8]) -> Draw {
+        Draw(bytes.iter().fold(bytes.len() as u64, |sum, &b| (sum ^ b as u64).wrapping_mul(0x0000_0100_0000_01b3)))
+    }
 
     /// The steps of SplitMix64.
     pub fn next(&mut self) -> u64 {
@@ -19,10 +21,22 @@ impl Draw {
         let b = (a ^ a >> 27).wrapping_mul(0x94d0_49bb_1331_11eb);
         b ^ b >> 31
     }
-    pub fn below(&mut self, n: usize) -> usize { (self.next() % n.max(1) as u64) as usize }
-    pub fn within(&mut self, low: i64, high: i64) -> i64 { low + self.below((high - low + 1) as usize) as i64 }
-    pub fn chance(&mut self, percent: usize) -> bool { self.below(100) < percent }
-    pub fn pick<T: Copy>(&mut self, from: &[T]) -> T { from[self.below(from.len())] }
-    pub fn byte(&mut self) -> u8 { self.next() as u8 }
-    pub fn bytes(&mut self, count: usize) -> Vec<u8> { (0..count).map(|_| self.byte()).collect() }
+    pub fn below(&mut self, n: usize) -> usize {
+        (self.next() % n.max(1) as u64) as usize
+    }
+    pub fn within(&mut self, low: i64, high: i64) -> i64 {
+        low + self.below((high - low + 1) as usize) as i64
+    }
+    pub fn chance(&mut self, percent: usize) -> bool {
+        self.below(100) < percent
+    }
+    pub fn pick<T: Copy>(&mut self, from: &[T]) -> T {
+        from[self.below(from.len())]
+    }
+    pub fn byte(&mut self) -> u8 {
+        self.next() as u8
+    }
+    pub fn bytes(&mut self, count: usize) -> Vec<u8> {
+        (0..count).map(|_| self.byte()).collect()
+    }
 }

@@ -1,14 +1,19 @@
 //! A raw file beside the Rust: its cuts, each packet's reading, and the same through windows of several sizes.
 use crate::draw::Draw;
 use crate::library::{self, IS, MORE, MOST_BYTES, MetadataAnswer, Packets, REFUSED, UNTOUCHED};
-use crate::tally::{Call, Listed, Outcome, Ours, Tally, Theirs, holds, ours, same};
 use crate::published_side;
+use crate::tally::{Call, Listed, Outcome, Tally, Theirs, holds, ours, same};
 use memchr::memmem;
 use published::gopro::klv::probe;
 
 /// A packet's start and end, what it is read as, and its rows.
 #[derive(Clone, Debug, PartialEq)]
-struct Reading { start: usize, end: usize, answer: MetadataAnswer, rows: Vec<u32> }
+struct Reading {
+    start: usize,
+    end: usize,
+    answer: MetadataAnswer,
+    rows: Vec<u32>,
+}
 
 pub fn file(bytes: &[u8], tally: &mut Tally) -> Outcome {
     let mut draw = Draw::of(bytes);
@@ -21,11 +26,17 @@ pub fn file(bytes: &[u8], tally: &mut Tally) -> Outcome {
     let numbers = draw.pick(&[8 * 64, 8 * 8 + 3, 8, 0]);
     let whole = readings(bytes, forced, numbers, tally);
     same("next_metadata's packets", &cuts, &whole.iter().map(|r| (r.start, r.end)).collect())?;
-    for reading in &whole { packet(bytes, reading, forced, numbers, tally)?; }
-    if crate::model::is_within_memory(bytes) { crate::clock::averages(bytes, &cuts, tally)?; }
+    for reading in &whole {
+        packet(bytes, reading, forced, numbers, tally)?;
+    }
+    if crate::model::is_within_memory(bytes) {
+        crate::clock::averages(bytes, &cuts, tally)?;
+    }
     // of a long file no small windows: each step searches from the packet's start
     let small = if bytes.len() < 20_000 { draw.below(40) + 1 } else { bytes.len() / 9 };
-    for size in [small, small * 10 + draw.below(100), bytes.len() + 1] { windows(bytes, size, &cuts, &whole, forced, numbers, tally)?; }
+    for size in [small, small * 10 + draw.below(100), bytes.len() + 1] {
+        windows(bytes, size, &cuts, &whole, forced, numbers, tally)?;
+    }
     Ok(())
 }
 
@@ -45,7 +56,9 @@ fn packets(bytes: &[u8], from: usize, tally: &mut Tally) -> Vec<(usize, usize)> 
     loop {
         let answer = library::packets_next(cursor, bytes);
         tally.call(Call::PacketsNext, if answer.kind == IS { Theirs::Answer } else { Theirs::Nothing }, ours(answer.kind));
-        if answer.kind != IS { return found; }
+        if answer.kind != IS {
+            return found;
+        }
         found.push((answer.packet.start, answer.packet.end));
         cursor = answer.rest;
     }
@@ -56,7 +69,9 @@ fn readings(bytes: &[u8], forced: bool, numbers: usize, tally: &mut Tally) -> Ve
     loop {
         let mut rows = vec![UNTOUCHED; numbers];
         let answer = library::next_metadata(cursor, bytes, forced, &mut rows);
-        if answer.kind != IS { return found; }
+        if answer.kind != IS {
+            return found;
+        }
         let read = if answer.metadata.kind == IS { Theirs::Answer } else { Theirs::Error };
         tally.call(Call::NextMetadata, read, ours(answer.metadata.kind));
         found.push(Reading { start: answer.packet.start, end: answer.packet.end, answer: answer.metadata, rows });
@@ -68,10 +83,16 @@ fn readings(bytes: &[u8], forced: bool, numbers: usize, tally: &mut Tally) -> Ve
 fn packet(bytes: &[u8], reading: &Reading, forced: bool, numbers: usize, tally: &mut Tally) -> Outcome {
     let payload = &bytes[reading.start..reading.end];
     same("next_metadata", &library::read(payload, forced, numbers), &(reading.answer, reading.rows.clone()))?;
-    if !crate::model::is_within_memory(payload) { tally.outside += 1; return Ok(()); }
+    if !crate::model::is_within_memory(payload) {
+        tally.outside += 1;
+        return Ok(());
+    }
     let theirs = published_side::walk(payload, forced).map.is_some();
     match (theirs, reading.answer.kind) {
-        (false, REFUSED) => { tally.listed(Listed::Told); Ok(()) }
+        (false, REFUSED) => {
+            tally.listed(Listed::Told);
+            Ok(())
+        }
         (true, IS) => Ok(()),
         // a limit or a small room: what `compare` holds each payload to
         (true, REFUSED) if matches!(reading.answer.number, 1 | 4 | 5) => Ok(()),
@@ -82,12 +103,23 @@ fn packet(bytes: &[u8], reading: &Reading, forced: bool, numbers: usize, tally: 
 // ---- windows
 
 /// A file that is read piece by piece, so many bytes more each time.
-struct Window<'a> { bytes: &'a [u8], base: usize, end: usize, size: usize }
+struct Window<'a> {
+    bytes: &'a [u8],
+    base: usize,
+    end: usize,
+    size: usize,
+}
 
 impl<'a> Window<'a> {
-    fn new(bytes: &'a [u8], size: usize) -> Window<'a> { Window { bytes, base: 0, end: size.min(bytes.len()), size } }
-    fn held(&self) -> &'a [u8] { &self.bytes[self.base..self.end] }
-    fn more(&self) -> bool { self.end < self.bytes.len() }
+    fn new(bytes: &'a [u8], size: usize) -> Window<'a> {
+        Window { bytes, base: 0, end: size.min(bytes.len()), size }
+    }
+    fn held(&self) -> &'a [u8] {
+        &self.bytes[self.base..self.end]
+    }
+    fn more(&self) -> bool {
+        self.end < self.bytes.len()
+    }
     fn step(&mut self, place: usize) {
         self.base += place;
         self.end = (self.end + self.size).min(self.bytes.len());
@@ -106,11 +138,16 @@ fn windows(bytes: &[u8], size: usize, cuts: &[(usize, usize)], whole: &[Reading]
     Ok(())
 }
 
+/// The Rust has no windows: of the whole file it has an answer for each packet, and none for what lies between.
+fn cut_or_not(kind: u32) -> Theirs {
+    if matches!(kind, IS | REFUSED) { Theirs::Answer } else { Theirs::Outside }
+}
+
 fn packets_in(mut window: Window, tally: &mut Tally) -> Vec<(usize, usize)> {
     let (mut found, mut cursor) = (Vec::new(), library::packets_new(0));
     loop {
         let answer = library::packets_next_in(cursor, window.held(), window.more());
-        tally.call(Call::PacketsNextIn, Theirs::Answer, ours(answer.kind));
+        tally.call(Call::PacketsNextIn, cut_or_not(answer.kind), ours(answer.kind));
         match answer.kind {
             IS => found.push((window.base + answer.packet.start, window.base + answer.packet.end)),
             MORE => window.step(answer.place),
@@ -126,10 +163,15 @@ fn readings_in(mut window: Window, forced: bool, numbers: usize, tally: &mut Tal
         let mut rows = vec![UNTOUCHED; numbers];
         let answer = library::next_metadata_in(cursor, window.held(), window.more(), forced, &mut rows);
         let (start, end) = (window.base + answer.packet.start, window.base + answer.packet.end);
-        tally.call(Call::NextMetadataIn, Theirs::Answer, if answer.kind == MORE { Ours::Nothing } else { ours(answer.kind) });
+        tally.call(Call::NextMetadataIn, cut_or_not(answer.kind), ours(answer.kind));
         match answer.kind {
             IS => found.push(Reading { start, end, answer: answer.metadata, rows }),
-            REFUSED => found.push(Reading { start, end: 0, answer: MetadataAnswer { kind: REFUSED, number: answer.number, place: answer.place, rows: 0, headers: 0 }, rows }),
+            REFUSED => found.push(Reading {
+                start,
+                end: 0,
+                answer: MetadataAnswer { kind: REFUSED, number: answer.number, place: answer.place, rows: 0, headers: 0 },
+                rows,
+            }),
             MORE => window.step(answer.place),
             _ => return found,
         }

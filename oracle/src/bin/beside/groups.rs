@@ -4,7 +4,7 @@ use crate::library::{self, IS, NOTHING, REFUSED};
 use crate::published_side::{Walked, caught, group};
 use crate::tally::{Call, Listed, Outcome, Tally, Theirs, holds, ours, same};
 use published::gopro::klv::probe;
-use published::plain::{double, Plain};
+use published::plain::{Plain, double};
 use published::tags_impl::{GroupId, GroupedTagMap, TagDescription, TagId, TagMap, probe_rows, probe_tag_number};
 use std::collections::BTreeMap;
 
@@ -14,10 +14,14 @@ use std::collections::BTreeMap;
 pub fn lookups(bytes: &[u8], walked: &Walked, rows: &[u32], draw: &mut Draw, tally: &mut Tally) -> Outcome {
     let map = walked.map.as_ref().expect("an accepted reading");
     let mut last = BTreeMap::new();
-    for (n, item) in walked.items.iter().enumerate() { last.insert((&item.group, &item.id), n); }
+    for (n, item) in walked.items.iter().enumerate() {
+        last.insert((&item.group, &item.id), n);
+    }
     same("entries of the Rust's map", &map.values().map(BTreeMap::len).sum::<usize>(), &last.len())?;
     for (group, tags) in map {
-        for (id, entry) in tags { lookup(bytes, rows, walked.items.len(), entry, last[&(group, id)], tally)?; }
+        for (id, entry) in tags {
+            lookup(bytes, rows, walked.items.len(), entry, last[&(group, id)], tally)?;
+        }
     }
     stranger(map, rows, walked.items.len(), draw, tally)
 }
@@ -48,7 +52,13 @@ fn stranger(map: &GroupedTagMap, rows: &[u32], count: usize, draw: &mut Draw, ta
 // ---- a group
 
 /// A payload, its rows, and one of its groups with the Rust's entries.
-struct Asked<'a> { bytes: &'a [u8], rows: &'a [u32], count: usize, id: &'a GroupId, tags: &'a TagMap }
+struct Asked<'a> {
+    bytes: &'a [u8],
+    rows: &'a [u32],
+    count: usize,
+    id: &'a GroupId,
+    tags: &'a TagMap,
+}
 
 pub fn payload(bytes: &[u8], map: &GroupedTagMap, rows: &[u32], count: usize, tally: &mut Tally) -> Outcome {
     for (id, tags) in map {
@@ -64,19 +74,27 @@ pub fn payload(bytes: &[u8], map: &GroupedTagMap, rows: &[u32], count: usize, ta
 }
 
 /// The type byte of an entry's item.
-fn letter(entry: Option<&TagDescription>) -> Option<u8> { entry.map(|e| probe_rows(&e.value).1[4]) }
+fn letter(entry: Option<&TagDescription>) -> Option<u8> {
+    entry.map(|e| probe_rows(&e.value).1[4])
+}
 
 impl Asked<'_> {
     fn stamp(&self, tally: &mut Tally) -> Outcome {
         let theirs = caught(|| probe::stamp(self.tags));
         let (kind, key) = group(self.id);
         let answer = library::stamp_us(self.bytes, self.rows, self.count, kind, key);
-        let side = match theirs { None => Theirs::Panic, Some(None) => Theirs::Nothing, Some(Some(_)) => Theirs::Answer };
+        let side = match theirs {
+            None => Theirs::Panic,
+            Some(None) => Theirs::Nothing,
+            Some(Some(_)) => Theirs::Answer,
+        };
         tally.call(Call::StampUs, side, ours(answer.kind));
         let is_date = letter(self.tags.get(&TagId::TimestampUs)) == Some(b'U');
         match (theirs, answer.kind) {
             (Some(Some(us)), IS) => {
-                if us < 0 { tally.listed(Listed::NegativeStamp); }
+                if us < 0 {
+                    tally.listed(Listed::NegativeStamp);
+                }
                 same("stamp_us", &(us as u64), &answer.value)
             }
             (Some(None), NOTHING) => Ok(()),
@@ -105,7 +123,9 @@ impl Asked<'_> {
         // behind the list there is none; where the list is empty its bytes were too few
         let behind = ask(list.len());
         tally.call(Call::ScaledQuaternion, Theirs::Outside, ours(behind.kind));
-        if list.is_empty() { tally.listed(Listed::ShortQuaternions); }
+        if list.is_empty() {
+            tally.listed(Listed::ShortQuaternions);
+        }
         same("scaled_quaternion behind the last", &(REFUSED, if list.is_empty() { 6 } else { 13 }), &(behind.kind, behind.number))
     }
 
@@ -113,14 +133,27 @@ impl Asked<'_> {
         let theirs = caught(|| probe::oriented_group(self.id, self.tags));
         let (kind, key) = group(self.id);
         let answer = library::orientation_of_group(self.bytes, self.rows, self.count, kind, key);
-        let side = match &theirs { None => Theirs::Panic, Some(None) => Theirs::Nothing, Some(Some(_)) => Theirs::Answer };
+        let side = match &theirs {
+            None => Theirs::Panic,
+            Some(None) => Theirs::Nothing,
+            Some(Some(_)) => Theirs::Answer,
+        };
         tally.call(Call::OrientationOfGroup, side, ours(answer.kind));
         match (&theirs, answer.kind) {
             (Some(Some(axes)), IS) => same("orientation_of_group", axes, &letters(answer.axes)),
             (Some(None), NOTHING) => Ok(()),
-            (None, REFUSED) if answer.number == 10 => { tally.listed(Listed::MatrixPanic); Ok(()) }
-            (_, REFUSED) if answer.number == 9 && self.has_other_axes() => { tally.listed(Listed::Axes); Ok(()) }
-            (Some(None), REFUSED) if self.is_unread(answer) => { tally.listed(Listed::AxesValue); Ok(()) }
+            (None, REFUSED) if answer.number == 10 => {
+                tally.listed(Listed::MatrixPanic);
+                Ok(())
+            }
+            (_, REFUSED) if answer.number == 9 && self.has_other_axes() => {
+                tally.listed(Listed::Axes);
+                Ok(())
+            }
+            (Some(None), REFUSED) if self.is_unread(answer) => {
+                tally.listed(Listed::AxesValue);
+                Ok(())
+            }
             _ => Err(format!("orientation_of_group: the Rust has {theirs:?}, the library {answer:?}")),
         }
     }
@@ -145,14 +178,20 @@ impl Asked<'_> {
 
     /// Whether ORIN or ORIO is a text of another length than three, or not ASCII.
     fn has_other_axes(&self) -> bool {
-        let other = |id| self.tags.get(&id).is_some_and(|entry| match &entry.value {
-            published::tags_impl::TagValue::String(text) => text.get().len() != 3 || !text.get().is_ascii(),
-            _ => false,
-        });
+        let other = |id| {
+            self.tags.get(&id).is_some_and(|entry| match &entry.value {
+                published::tags_impl::TagValue::String(text) => text.get().len() != 3 || !text.get().is_ascii(),
+                _ => false,
+            })
+        };
         other(TagId::OrientationIn) || other(TagId::OrientationOut)
     }
 }
 
-fn four(w: f64, x: f64, y: f64, z: f64) -> [Plain; 4] { [double(w), double(x), double(y), double(z)] }
+fn four(w: f64, x: f64, y: f64, z: f64) -> [Plain; 4] {
+    [double(w), double(x), double(y), double(z)]
+}
 
-pub fn letters(axes: library::Axes) -> String { [axes.first, axes.second, axes.third].map(|c| c as char).iter().collect() }
+pub fn letters(axes: library::Axes) -> String {
+    [axes.first, axes.second, axes.third].map(|c| c as char).iter().collect()
+}

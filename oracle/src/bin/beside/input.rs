@@ -105,7 +105,9 @@ fn smaller_levels(level: &[u8]) -> Vec<Vec<u8>> {
     let (mut all, mut at) = (Vec::new(), 0);
     while at + 8 <= level.len() {
         let (from, to) = (at + 8, at + 8 + model::length(level, at));
-        if to > level.len() { break; }
+        if to > level.len() {
+            break;
+        }
         let behind = level.len().min(to.next_multiple_of(4).max(from));
         let with = |part: &[u8]| [&level[..at], part, &level[behind..]].concat();
         all.push(with(&[]));
@@ -134,6 +136,8 @@ fn stretches(length: usize) -> Vec<(usize, usize)> {
 }
 
 pub fn hex(bytes: &[u8]) -> String {
-    if bytes.len() > 4096 { return format!("{}.. ({} bytes)", hex(&bytes[..256]), bytes.len()); }
+    if bytes.len() > 4096 {
+        return format!("{}.. ({} bytes)", hex(&bytes[..256]), bytes.len());
+    }
     bytes.iter().map(|b| format!("{b:02x}")).collect()
 }

@@ -46,11 +46,18 @@ records! {
 }
 
 impl Row {
-    pub fn klv(&self) -> Klv { Klv { key: self.key, data_type: (self.shape >> 24) as u8, size: (self.shape >> 16) as u8, repeat: self.shape as u16 } }
+    pub fn klv(&self) -> Klv {
+        Klv { key: self.key, data_type: (self.shape >> 24) as u8, size: (self.shape >> 16) as u8, repeat: self.shape as u16 }
+    }
 }
 impl NumberRecord {
     pub fn plain(&self) -> Plain {
-        match self.form { 0 => Plain::Signed(self.signed_value), 1 => Plain::Unsigned(self.unsigned_value), 2 => single(self.single_value), _ => double(self.double_value) }
+        match self.form {
+            0 => Plain::Signed(self.signed_value),
+            1 => Plain::Unsigned(self.unsigned_value),
+            2 => single(self.single_value),
+            _ => double(self.double_value),
+        }
     }
 }
 
@@ -106,14 +113,18 @@ calls! {
     "gpmf_is_utf8" is_utf8(slice text: u8) -> bool;
     "gpmf_are_utf8" are_utf8(slice texts: u8, plain size: usize) -> bool;
     "gpmf_parse_utcdate" parse_utcdate(slice text: u8) -> WholeAnswer;
-    "gpmf_tagged_item" tagged_item(slice s: u8, slice rows: u32, plain count: usize, plain group_kind: u32, plain group_key: u32, plain tag: u32, plain key: u32) -> ItemAnswer;
+    "gpmf_tagged_item" tagged_item(slice s: u8, slice rows: u32, plain count: usize, plain group_kind: u32,
+        plain group_key: u32, plain tag: u32, plain key: u32) -> ItemAnswer;
     "gpmf_is_one_number" is_one_number(plain klv: Klv, plain letter: u8) -> bool;
     "gpmf_stamp_us" stamp_us(slice s: u8, slice rows: u32, plain count: usize, plain group_kind: u32, plain group_key: u32) -> WholeAnswer;
-    "gpmf_scaled_quaternion" scaled_quaternion(slice s: u8, slice rows: u32, plain count: usize, plain group_kind: u32, plain group_key: u32, plain row: usize) -> QuaternionAnswer;
+    "gpmf_scaled_quaternion" scaled_quaternion(slice s: u8, slice rows: u32, plain count: usize,
+        plain group_kind: u32, plain group_key: u32, plain row: usize) -> QuaternionAnswer;
     "gpmf_scaled" scaled(plain w: i16, plain x: i16, plain y: i16, plain z: i16, plain scale: f64) -> Quaternion;
     "gpmf_negated" negated(plain x: i16) -> i16;
-    "gpmf_orientation_of_group" orientation_of_group(slice payload: u8, slice rows: u32, plain count: usize, plain group_kind: u32, plain group_key: u32) -> AxesAnswer;
-    "gpmf_get_avg_sample_duration" get_avg_sample_duration(slice counts: u32, slice has_stamp: u8, slice stamps: u64, slice durations: f64, slice missing: u8) -> RealAnswer;
+    "gpmf_orientation_of_group" orientation_of_group(slice payload: u8, slice rows: u32, plain count: usize,
+        plain group_kind: u32, plain group_key: u32) -> AxesAnswer;
+    "gpmf_get_avg_sample_duration" get_avg_sample_duration(slice counts: u32, slice has_stamp: u8, slice stamps: u64,
+        slice durations: f64, slice missing: u8) -> RealAnswer;
     "gpmf_orientations_of" orientations_of(slice orin: u8, slice orio: u8) -> OrientationsAnswer;
     "gpmf_orientations_to_matrix" orientations_to_matrix(plain orin: Axes, plain orio: Axes) -> Matrix;
     "gpmf_matrix_to_orientation" matrix_to_orientation(plain matrix: Matrix) -> AxesAnswer;
@@ -123,12 +134,15 @@ calls! {
     "gpmf_packets_next" packets_next(plain packets: Packets, slice file: u8) -> PacketAnswer;
     "gpmf_packets_next_in" packets_next_in(plain packets: Packets, slice window: u8, plain more: bool) -> PacketAnswer;
     "gpmf_next_metadata" next_metadata(plain packets: Packets, slice file: u8, plain forced: bool, lent rows: u32) -> PacketMetadataAnswer;
-    "gpmf_next_metadata_in" next_metadata_in(plain packets: Packets, slice window: u8, plain more: bool, plain forced: bool, lent rows: u32) -> PacketMetadataAnswer;
+    "gpmf_next_metadata_in" next_metadata_in(plain packets: Packets, slice window: u8, plain more: bool,
+        plain forced: bool, lent rows: u32) -> PacketMetadataAnswer;
 }
 
 /// A TYPE text written out, and the answer.
 pub fn resolve_custom_type(text: &[u8]) -> (WholeAnswer, [u8; 256]) {
-    unsafe extern "C" { fn gpmf_resolve_custom_type(text: *const u8, text_len: usize, out: *mut u8) -> WholeAnswer; }
+    unsafe extern "C" {
+        fn gpmf_resolve_custom_type(text: *const u8, text_len: usize, out: *mut u8) -> WholeAnswer;
+    }
     let mut out = [UNTOUCHED as u8; 256];
     let answer = unsafe { gpmf_resolve_custom_type(text.as_ptr(), text.len(), out.as_mut_ptr()) };
     (answer, out)
@@ -145,4 +159,6 @@ pub fn read(payload: &[u8], forced: bool, numbers: usize) -> (MetadataAnswer, Ve
 }
 
 /// Whether lent numbers are as they were, but for so many rows at their front.
-pub fn untouched_behind(rows: &[u32], count: usize) -> bool { rows[count * 8..].iter().all(|&n| n == UNTOUCHED) }
+pub fn untouched_behind(rows: &[u32], count: usize) -> bool {
+    rows[count * 8..].iter().all(|&n| n == UNTOUCHED)
+}

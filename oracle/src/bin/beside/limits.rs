@@ -29,25 +29,56 @@ fn rows() -> Vec<Vec<u8>> {
 }
 
 fn long_texts() -> Vec<Vec<u8>> {
-    let mut all: Vec<Vec<u8>> = (255..258).flat_map(|n| [vec![b'f'; n], format!("f[{n}]").into_bytes(), format!("a[200]b[{}]", n - 200).into_bytes(), format!("{}b", "a[128]".repeat(n / 128)).into_bytes()]).collect();
-    for text in ["f[18446744073709551615]", "f[18446744073709551616]", "f[99999]", "f[999999]", "\u{e9}[2]", "f[00000000000000000000000003]", "[256]f", "ab[255]", "ab[256]"] {
+    let mut all: Vec<Vec<u8>> = (255..258)
+        .flat_map(|n| {
+            [vec![b'f'; n], format!("f[{n}]").into_bytes(), format!("a[200]b[{}]", n - 200).into_bytes(), format!("{}b", "a[128]".repeat(n / 128)).into_bytes()]
+        })
+        .collect();
+    for text in [
+        "f[18446744073709551615]",
+        "f[18446744073709551616]",
+        "f[99999]",
+        "f[999999]",
+        "\u{e9}[2]",
+        "f[00000000000000000000000003]",
+        "[256]f",
+        "ab[255]",
+        "ab[256]",
+    ] {
         all.push(text.chars().map(|c| c as u8).collect());
     }
     all
 }
 
-fn texts() -> Vec<Input> { long_texts().into_iter().map(Input::TypeText).collect() }
+fn texts() -> Vec<Input> {
+    long_texts().into_iter().map(Input::TypeText).collect()
+}
 
 fn types() -> Vec<Vec<u8>> {
-    long_texts().iter().flat_map(|t| [1usize, 2].map(|repeat| [text(b"TYPE", t), item(b"ABCD", b'?', 255, repeat * 8, &vec![3; 255 * repeat * 8])].concat())).collect()
+    long_texts()
+        .iter()
+        .flat_map(|t| [1usize, 2].map(|repeat| [text(b"TYPE", t), item(b"ABCD", b'?', 255, repeat * 8, &vec![3; 255 * repeat * 8])].concat()))
+        .collect()
 }
 
 fn readings() -> Vec<Vec<u8>> {
     let most = 65_535;
     let of = |letter, size: usize| item(b"GYRO", letter, size, most, &vec![9; size * most]);
     let structures = |t: &[u8]| [text(b"TYPE", t), item(b"ABCD", b'?', 1, most, &vec![5; most])].concat();
-    vec![of(b'B', 1), of(b's', 6), of(b'c', 1), of(b'c', 2), of(b'l', 3), structures(b"x"), structures(b"B"), structures(b"BB"), item(b"CORI", b's', 8, most, &vec![1; 8 * most]),
-        item(b"CORI", b's', 7, most, &vec![1; 7 * most]), item(b"ABCD", b'd', 255, 4000, &vec![0x7f; 255 * 4000]), item(b"ABCD", b'F', 255, 4000, &vec![b'a'; 255 * 4000])]
+    vec![
+        of(b'B', 1),
+        of(b's', 6),
+        of(b'c', 1),
+        of(b'c', 2),
+        of(b'l', 3),
+        structures(b"x"),
+        structures(b"B"),
+        structures(b"BB"),
+        item(b"CORI", b's', 8, most, &vec![1; 8 * most]),
+        item(b"CORI", b's', 7, most, &vec![1; 7 * most]),
+        item(b"ABCD", b'd', 255, 4000, &vec![0x7f; 255 * 4000]),
+        item(b"ABCD", b'F', 255, 4000, &vec![b'a'; 255 * 4000]),
+    ]
 }
 
 fn lists() -> Vec<Input> {
@@ -62,13 +93,19 @@ fn lists() -> Vec<Input> {
 /// Packets of the most bytes and one more, first and behind another; many packets; DEVC at all small distances.
 fn files() -> Vec<Input> {
     let devc = b"DEVC\0\x01\0\0".as_slice();
-    let mut all: Vec<Vec<u8>> = (1_048_575..1_048_579).flat_map(|n| {
-        let long = [devc, &vec![0; n]].concat();
-        [[&long[..], devc, b"12345"].concat(), [devc, b"1234", &long[..]].concat(), long]
-    }).collect();
+    let mut all: Vec<Vec<u8>> = (1_048_575..1_048_579)
+        .flat_map(|n| {
+            let long = [devc, &vec![0; n]].concat();
+            [[&long[..], devc, b"12345"].concat(), [devc, b"1234", &long[..]].concat(), long]
+        })
+        .collect();
+    // a window can tell that these are over the limit before it has their end
+    all.extend([1_400_000, 2_500_000].map(|n| [devc, b"1234", devc, &vec![0; n], devc, b"12345"].concat()));
     all.push([devc, &one(b"ABCD", b'B', &[1])].concat().repeat(2049));
     for between in 0..16 {
-        for behind in [0, 4, 5, 9] { all.push([&b"DEVC"[..], &vec![b'x'; between], b"DEVC", &vec![b'y'; behind]].concat()); }
+        for behind in [0, 4, 5, 9] {
+            all.push([&b"DEVC"[..], &vec![b'x'; between], b"DEVC", &vec![b'y'; behind]].concat());
+        }
     }
     all.extend((20..420).map(|place| [&vec![b'x'; place][..], b"DEVC12345"].concat()));
     all.into_iter().map(Input::File).collect()

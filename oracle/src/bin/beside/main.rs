@@ -26,21 +26,32 @@ use tally::{Call, Listed, Ours, Tally, Theirs};
 const SHARE: u64 = 512;
 
 /// What a thread has counted, and the unlisted differences that it met, each with its input's number.
-struct Found { tally: Tally, kinds: Vec<u64>, unlisted: u64, differences: Vec<(u64, Kind, Input, String)> }
+struct Found {
+    tally: Tally,
+    kinds: Vec<u64>,
+    unlisted: u64,
+    differences: Vec<(u64, Kind, Input, String)>,
+}
 
 impl Found {
-    fn new() -> Found { Found { tally: Tally::new(), kinds: vec![0; Kind::ALL.len()], unlisted: 0, differences: Vec::new() } }
+    fn new() -> Found {
+        Found { tally: Tally::new(), kinds: vec![0; Kind::ALL.len()], unlisted: 0, differences: Vec::new() }
+    }
 
     fn ask(&mut self, number: u64, (kind, input): (Kind, Input)) {
         self.kinds[kind as usize] += 1;
         let Some(difference) = input.difference(&mut self.tally) else { return };
         self.unlisted += 1;
-        if self.differences.len() < 1000 { self.differences.push((number, kind, input, difference)); }
+        if self.differences.len() < 1000 {
+            self.differences.push((number, kind, input, difference));
+        }
     }
 
     fn add(&mut self, other: Found) {
         self.tally.add(&other.tally);
-        for (x, y) in self.kinds.iter_mut().zip(other.kinds) { *x += y; }
+        for (x, y) in self.kinds.iter_mut().zip(other.kinds) {
+            *x += y;
+        }
         self.unlisted += other.unlisted;
         self.differences.extend(other.differences);
     }
@@ -52,9 +63,13 @@ fn work(generator: &Generator, payloads: u64, next: &AtomicU64) -> Found {
     let fixed = generator.fixed();
     loop {
         let from = next.fetch_add(SHARE, Ordering::Relaxed);
-        if from >= payloads { return found; }
+        if from >= payloads {
+            return found;
+        }
         for number in from..(from + SHARE).min(payloads) {
-            if let Some((kind, input)) = fixed.get(number as usize) { found.ask(number, (*kind, input.clone())); }
+            if let Some((kind, input)) = fixed.get(number as usize) {
+                found.ask(number, (*kind, input.clone()));
+            }
             found.ask(number, generator.payload(number));
             found.ask(number, generator.other(number));
         }
@@ -67,7 +82,9 @@ fn run(generator: &Generator, payloads: u64) -> Found {
     std::thread::scope(|scope| {
         let spawn = |_| std::thread::Builder::new().stack_size(1 << 28).spawn_scoped(scope, || work(generator, payloads, &next)).expect("a thread");
         let workers: Vec<_> = (0..threads).map(spawn).collect();
-        for worker in workers { all.add(worker.join().expect("a thread that ends")); }
+        for worker in workers {
+            all.add(worker.join().expect("a thread that ends"));
+        }
     });
     all.differences.sort_by_key(|(number, kind, ..)| (*number, *kind as usize));
     all
@@ -84,17 +101,32 @@ fn shown(n: u64) -> String {
 
 fn print_counts(found: &Found) {
     println!("\ninputs");
-    for kind in Kind::ALL { println!("  {:>12}  {}", shown(found.kinds[*kind as usize]), kind.text()); }
-    println!("\n{:<42} {}   {}", "calls", Theirs::ALL.iter().map(|t| format!("{:>12}", t.text())).collect::<String>(), Ours::ALL.iter().map(|o| format!("{:>12}", o.text())).collect::<String>());
+    for kind in Kind::ALL {
+        println!("  {:>12}  {}", shown(found.kinds[*kind as usize]), kind.text());
+    }
+    println!(
+        "\n{:<42} {}   {}",
+        "calls",
+        Theirs::ALL.iter().map(|t| format!("{:>12}", t.text())).collect::<String>(),
+        Ours::ALL.iter().map(|o| format!("{:>12}", o.text())).collect::<String>()
+    );
     for call in Call::ALL {
         let counts = found.tally.calls[*call as usize];
         let columns = |numbers: &[u64]| numbers.iter().map(|n| format!("{:>12}", shown(*n))).collect::<String>();
         println!("  {:<40} {}   {}", call.text(), columns(&counts.theirs), columns(&counts.ours));
     }
     let t = &found.tally;
-    println!("\n  {} values, {} elements; {} readings with a room that is too small; {} inputs on which the Rust's process would end, so that it was not asked", shown(t.values), shown(t.elements), shown(t.small_rooms), shown(t.outside));
+    println!(
+        "\n  {} values, {} elements; {} readings with a room that is too small; {} inputs on which the Rust's process would end, so that it was not asked",
+        shown(t.values),
+        shown(t.elements),
+        shown(t.small_rooms),
+        shown(t.outside)
+    );
     println!("\nlisted differences (docs/DIFFERENCES.md)");
-    for entry in Listed::ALL { println!("  {:>12}  {}", shown(t.listed[*entry as usize]), entry.text()); }
+    for entry in Listed::ALL {
+        println!("  {:>12}  {}", shown(t.listed[*entry as usize]), entry.text());
+    }
 }
 
 /// The first of the unlisted differences of each sort, made small: of one sort are those whose words are the same but for numbers.
@@ -116,10 +148,20 @@ fn main() {
         eprintln!("usage: beside SEED PAYLOADS [FILE ..]");
         std::process::exit(2);
     };
-    let files: Vec<Vec<u8>> = words[2..].iter().map(|path| std::fs::read(path).unwrap_or_else(|why| { eprintln!("{path}: {why}"); std::process::exit(2) })).collect();
+    let files: Vec<Vec<u8>> = words[2..]
+        .iter()
+        .map(|path| {
+            std::fs::read(path).unwrap_or_else(|why| {
+                eprintln!("{path}: {why}");
+                std::process::exit(2)
+            })
+        })
+        .collect();
     std::panic::set_hook(Box::new(|_| ())); // a panic of the Rust is an answer
     println!("seed {seed}");
-    if !differences::all_shown() { std::process::exit(1); }
+    if !differences::all_shown() {
+        std::process::exit(1);
+    }
     let generator = Generator::new(seed, &files);
     let payloads = payloads.max(generator.fixed().len() as u64);
     let began = std::time::Instant::now();
@@ -131,5 +173,7 @@ fn main() {
     println!("\nseed {seed}: {seconds:.0} seconds, {} payloads a second", shown((asked as f64 / seconds) as u64));
     print_differences(found);
     println!("{} payloads, {unlisted} differences that docs/DIFFERENCES.md does not list", shown(asked));
-    if unlisted > 0 { std::process::exit(1); }
+    if unlisted > 0 {
+        std::process::exit(1);
+    }
 }

@@ -6,7 +6,11 @@ use published::util::{begin_list, end_list};
 use std::panic::{AssertUnwindSafe, catch_unwind};
 
 /// A walk: its map, all that it put in, in order, and how many headers it read.
-pub struct Walked { pub map: Option<GroupedTagMap>, pub items: Vec<TagDescription>, pub headers: usize }
+pub struct Walked {
+    pub map: Option<GroupedTagMap>,
+    pub items: Vec<TagDescription>,
+    pub headers: usize,
+}
 
 pub fn walk(payload: &[u8], forced: bool) -> Walked {
     let before = byteorder::u16_reads();
@@ -17,16 +21,24 @@ pub fn walk(payload: &[u8], forced: bool) -> Walked {
 
 /// A group as a row has it: its kind, and its key.
 pub fn group(id: &GroupId) -> (u32, u32) {
-    if *id == GroupId::Default { return (0, 0); }
+    if *id == GroupId::Default {
+        return (0, 0);
+    }
     (1, key_number(&group_number(id).1))
 }
-pub fn key_number(key: &[u8]) -> u32 { u32::from_be_bytes(key.try_into().expect("four bytes")) }
+pub fn key_number(key: &[u8]) -> u32 {
+    u32::from_be_bytes(key.try_into().expect("four bytes"))
+}
 
-pub fn tag_id(key: u32) -> u32 { probe_tag_number(&KLV { key: key.to_be_bytes(), ..Default::default() }.tag_id()) }
+pub fn tag_id(key: u32) -> u32 {
+    probe_tag_number(&KLV { key: key.to_be_bytes(), ..Default::default() }.tag_id())
+}
 pub fn group_from_key(key: u32) -> (u32, u32) {
     let (number, kept) = group_number(&KLV::group_from_key(&key.to_be_bytes()));
     (number, key_number(&kept))
 }
 
 /// An answer, or none where the Rust panics.
-pub fn caught<T>(ask: impl FnOnce() -> T) -> Option<T> { catch_unwind(AssertUnwindSafe(ask)).ok() }
+pub fn caught<T>(ask: impl FnOnce() -> T) -> Option<T> {
+    catch_unwind(AssertUnwindSafe(ask)).ok()
+}

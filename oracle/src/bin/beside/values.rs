@@ -1,5 +1,5 @@
 //! A row's value beside the Rust's, bit for bit: what it is called, its rows and columns, every element.
-use crate::compare::{header_at, type_at};
+use crate::compare::header_at;
 use crate::draw::Draw;
 use crate::library::{self, ElementAnswer, IS, KINDS, REFUSED, Row, ShapeAnswer};
 use crate::model;
@@ -14,8 +14,12 @@ pub fn value(bytes: &[u8], row: Row, value: &TagValue, draw: &mut Draw, tally: &
     same("type, size and repeat", &header_at(item, 0), &row.klv())?;
     tally.call(Call::IsOneText, Theirs::Answer, Ours::Is);
     same("is_one_text", &(variant == "String"), &library::is_one_text(row.klv()))?;
-    let shape = library::shape_at(bytes, place, type_at(row));
-    let theirs = match read { ReadBack::Is(_) => Theirs::Answer, ReadBack::Failed => Theirs::Error, ReadBack::Panicked => Theirs::Panic };
+    let shape = library::shape_at(bytes, place, row.type_place as usize);
+    let theirs = match read {
+        ReadBack::Is(_) => Theirs::Answer,
+        ReadBack::Failed => Theirs::Error,
+        ReadBack::Panicked => Theirs::Panic,
+    };
     tally.values += 1;
     tally.call(Call::ShapeAt, theirs, ours(shape.kind));
     let rows = match (read, shape.kind) {
@@ -27,7 +31,9 @@ pub fn value(bytes: &[u8], row: Row, value: &TagValue, draw: &mut Draw, tally: &
     };
     let rows = if variant == "Vec_Scalar" { vec![rows.concat()] } else { rows };
     same("what the value is called", &called(variant, row), &KINDS[shape.value_kind as usize])?;
-    if variant != "Vec_Quaternioni16" { same("is_one_number", &(called(variant, row) == "single"), &library::is_one_number(row.klv(), row.klv().data_type))?; }
+    if variant != "Vec_Quaternioni16" {
+        same("is_one_number", &(called(variant, row) == "single"), &library::is_one_number(row.klv(), row.klv().data_type))?;
+    }
     let columns = rows.first().map_or(0, Vec::len);
     same("rows and columns", &(rows.len(), columns), &(shape.rows, shape.columns))?;
     Value { bytes, row, rows: &rows, shape }.compare(draw, tally)
@@ -68,7 +74,7 @@ fn panicked(row: Row, shape: ShapeAnswer, tally: &mut Tally) -> Outcome {
 }
 
 fn long_type(bytes: &[u8], row: Row, shape: ShapeAnswer, tally: &mut Tally) -> Outcome {
-    let at = type_at(row);
+    let at = row.type_place as usize;
     let text = &bytes[at + 8..at + 8 + model::length(bytes, at)];
     let characters = model::expanded_length(&text[..library::latin1_len(text)]);
     holds(characters > 256 && shape.place == row.place as usize, || format!("refused with 8 at {characters} characters: {shape:?}"))?;
@@ -76,42 +82,55 @@ fn long_type(bytes: &[u8], row: Row, shape: ShapeAnswer, tally: &mut Tally) -> O
     Ok(())
 }
 
-struct Value<'a> { bytes: &'a [u8], row: Row, rows: &'a [Vec<Plain>], shape: ShapeAnswer }
+struct Value<'a> {
+    bytes: &'a [u8],
+    row: Row,
+    rows: &'a [Vec<Plain>],
+    shape: ShapeAnswer,
+}
 
 impl Value<'_> {
     fn compare(&self, draw: &mut Draw, tally: &mut Tally) -> Outcome {
         for (n, row) in self.rows.iter().enumerate() {
-            if self.rows.len() <= 256 || n % (self.rows.len() / 128) == 0 || n + 1 == self.rows.len() { self.columns(n, row.len(), tally)?; }
+            if self.rows.len() <= 256 || n % (self.rows.len() / 128) == 0 || n + 1 == self.rows.len() {
+                self.columns(n, row.len(), tally)?;
+            }
         }
         let all: usize = self.rows.iter().map(Vec::len).sum();
         let most = if self.shape.value_kind == 6 { 128 } else { 4096 };
         if all <= most {
             for (n, row) in self.rows.iter().enumerate() {
-                for c in 0..row.len() { self.element(n, c, tally)?; }
+                for c in 0..row.len() {
+                    self.element(n, c, tally)?;
+                }
             }
         } else {
             // of a value of very many elements some: each call looks at the whole shape
             for _ in 0..most {
                 let n = draw.below(self.rows.len());
-                if !self.rows[n].is_empty() { self.element(n, draw.below(self.rows[n].len()), tally)?; }
+                if !self.rows[n].is_empty() {
+                    self.element(n, draw.below(self.rows[n].len()), tally)?;
+                }
             }
         }
         self.outside(draw, tally)
     }
 
     fn columns(&self, n: usize, expected: usize, tally: &mut Tally) -> Outcome {
-        let answer = library::columns_at(self.bytes, self.row.place as usize, type_at(self.row), n);
+        let answer = library::columns_at(self.bytes, self.row.place as usize, self.row.type_place as usize, n);
         tally.call(Call::ColumnsAt, Theirs::Answer, ours(answer.kind));
         same("columns_at", &(IS, expected as u64), &(answer.kind, answer.value))
     }
 
     fn element(&self, n: usize, c: usize, tally: &mut Tally) -> Outcome {
-        let answer = library::element(self.bytes, self.row.place as usize, type_at(self.row), n, c);
+        let answer = library::element(self.bytes, self.row.place as usize, self.row.type_place as usize, n, c);
         tally.call(Call::Element, Theirs::Answer, ours(answer.kind));
         tally.elements += 1;
         holds(answer.kind == IS, || format!("element {n} {c} is refused: {answer:?}"))?;
         same("an element", &self.rows[n][c], &answer.element.plain())?;
-        if self.shape.value_kind <= 4 { self.by_letter(n, c, answer, tally)?; }
+        if self.shape.value_kind <= 4 {
+            self.by_letter(n, c, answer, tally)?;
+        }
         Ok(())
     }
 
@@ -121,8 +140,12 @@ impl Value<'_> {
         let width = library::width(letter);
         let at = self.row.place as usize + 8 + (n * self.shape.columns + c) * width;
         let raw = &self.bytes[at..at + width];
-        if is_other_nan(letter, raw, answer) { tally.listed(Listed::Nan); }
-        if n > 1 { return Ok(()); }
+        if is_other_nan(letter, raw, answer) {
+            tally.listed(Listed::Nan);
+        }
+        if n > 1 {
+            return Ok(());
+        }
         tally.call(Call::ElementAt, Theirs::Answer, Ours::Is);
         same("element_at", &self.rows[n][c], &library::element_at(self.bytes, at, letter).plain())?;
         match letter {
@@ -139,12 +162,14 @@ impl Value<'_> {
 
     /// Beside the value there is nothing: 13, at the place asked.
     fn outside(&self, draw: &mut Draw, tally: &mut Tally) -> Outcome {
-        let (place, type_at, more) = (self.row.place as usize, type_at(self.row), draw.next() as usize >> draw.below(64));
+        let (place, type_at, more) = (self.row.place as usize, self.row.type_place as usize, draw.next() as usize >> draw.below(64));
         let refused = (REFUSED, 13, place);
         let below = library::element(self.bytes, place, type_at, self.shape.rows.saturating_add(more), 0);
         let beside = library::element(self.bytes, place, type_at, 0, self.shape.columns.saturating_add(more));
         let columns = library::columns_at(self.bytes, place, type_at, self.shape.rows.saturating_add(more));
-        for _ in 0..2 { tally.call(Call::Element, Theirs::Outside, Ours::Refused); }
+        for _ in 0..2 {
+            tally.call(Call::Element, Theirs::Outside, Ours::Refused);
+        }
         tally.call(Call::ColumnsAt, Theirs::Outside, Ours::Refused);
         same("an element below the value", &refused, &(below.kind, below.number, below.place))?;
         same("an element beside the value", &refused, &(beside.kind, beside.number, beside.place))?;
@@ -152,8 +177,12 @@ impl Value<'_> {
     }
 }
 
-fn half(raw: &[u8], at: usize) -> u16 { u16::from_be_bytes([raw[at], raw[at + 1]]) }
-fn whole(raw: &[u8], at: usize) -> u32 { u32::from_be_bytes([raw[at], raw[at + 1], raw[at + 2], raw[at + 3]]) }
+fn half(raw: &[u8], at: usize) -> u16 {
+    u16::from_be_bytes([raw[at], raw[at + 1]])
+}
+fn whole(raw: &[u8], at: usize) -> u32 {
+    u32::from_be_bytes([raw[at], raw[at + 1], raw[at + 2], raw[at + 3]])
+}
 
 fn fixed(theirs: Plain, ours: Plain, tally: &mut Tally) -> Outcome {
     tally.call(Call::Fixed, Theirs::Answer, Ours::Is);
