@@ -1,4 +1,5 @@
 mod Decide
 mod Written
+mod Room
 mod Passes
 pub mod Cases
