@@ -1,9 +1,15 @@
-//! Links the driver `beside` with the proved library: GPMF_LIB names the folder that has libgpmf.a.
+//! Links the drivers `beside` and `speed` with the proved library: GPMF_LIB names the folder that has libgpmf.a.
 fn main() {
     println!("cargo:rerun-if-env-changed=GPMF_LIB");
-    if std::env::var_os("CARGO_FEATURE_BESIDE").is_none() { return; }
+    let drivers = [("CARGO_FEATURE_BESIDE", "beside"), ("CARGO_FEATURE_SPEED", "speed")];
+    for (feature, driver) in drivers {
+        if std::env::var_os(feature).is_some() { link(driver); }
+    }
+}
+
+fn link(driver: &str) {
     let Ok(folder) = std::env::var("GPMF_LIB") else {
-        println!("cargo:warning=GPMF_LIB is not set: it must name the folder that has libgpmf.a, as `./gpmf lib` leaves it in target/lib; oracle/beside.sh sets it");
+        println!("cargo:warning=GPMF_LIB is not set: it must name the folder that has libgpmf.a, as `./gpmf lib` leaves it in target/lib; oracle/beside.sh and bench/run set it");
         std::process::exit(1);
     };
     let library = format!("{folder}/libgpmf.a");
@@ -12,5 +18,5 @@ fn main() {
         std::process::exit(1);
     }
     println!("cargo:rerun-if-changed={library}");
-    println!("cargo:rustc-link-arg-bin=beside={library}");
+    println!("cargo:rustc-link-arg-bin={driver}={library}");
 }

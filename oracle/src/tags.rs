@@ -143,6 +143,19 @@ macro_rules! probe_rows {
 }
 with_all_types!(probe_rows);
 
+macro_rules! probe_reads {
+    ($($field:ident: $type:ty),*,) => {
+        /// The read of a value, by its own parse function; what it gives is dropped.
+        pub fn probe_read(v: &TagValue) {
+            match v {
+                $(TagValue::$field(t) => drop(std::hint::black_box(probe_parse(t))),)*
+                TagValue::Unknown(_) => (),
+            }
+        }
+    };
+}
+with_all_types!(probe_reads);
+
 /// Document 01's tag numbers.
 pub fn probe_tag_number(t: &TagId) -> u32 {
     match t {
