@@ -13,21 +13,21 @@ const LEVELS: [usize; 5] = [1, 2, 4, 8, 16];
 fn walk_times(payloads: &[&[u8]]) -> [f64; 2] {
     walk::check(payloads);
     let mut rows = vec![0; NUMBERS];
-    alternate(payloads.len(), [&mut whole(|| walk::ours(payloads, &mut rows)), &mut whole(|| walk::theirs(payloads))]).map(median)
+    alternate(payloads.len(), [&mut whole(|| walk::ours(payloads, &mut rows)), &mut whole(|| walk::theirs(payloads))]).map(best)
 }
 
 /// Our two ways to read all values and the Rust's, in nanoseconds for an element.
 fn value_times(payloads: &[&[u8]]) -> [f64; 3] {
-    Both::of(payloads).times().map(median)
+    Both::of(payloads).times().map(best)
 }
 
 /// Our cutting and memmem's, in nanoseconds for 1,000 bytes.
 fn cut_times(file: &[u8]) -> [f64; 2] {
-    alternate(1, [&mut whole(|| cut::ours(file)), &mut whole(|| cut::by_memmem(file))]).map(|t| t.median / file.len() as f64 * 1000.)
+    alternate(1, [&mut whole(|| cut::ours(file)), &mut whole(|| cut::by_memmem(file))]).map(|t| t.best / file.len() as f64 * 1000.)
 }
 
-fn median(times: Times) -> f64 {
-    times.median
+fn best(times: Times) -> f64 {
+    times.best
 }
 
 /// A row: the times at each size, and the last over the first.
@@ -46,7 +46,7 @@ fn print_rows<const N: usize>(names: [&str; N], times: &[[f64; N]]) {
 fn print_packets(all: &Take) {
     let takes = PACKETS.map(|packets| all.first(packets));
     println!(
-        "\n**From 1 to 1,000 packets**: medians, in ns for a packet, an element or 1,000 bytes. Where the last number is about 1, the whole grows as the packets do."
+        "\n**From 1 to 1,000 packets**: best rounds, in ns for a packet, an element or 1,000 bytes. Where the last number is about 1, the whole grows as the packets do."
     );
     head(&["What", "1 packet", "10", "100", "1,000", "1,000 over 1"]);
     print_rows(["our walk, a packet", "the Rust's walk, a packet"], &takes.each_ref().map(|take| walk_times(&take.payloads())));
@@ -63,7 +63,7 @@ fn print_slopes(what: &str, times: &[f64; 5]) {
 
 fn print_levels() {
     let payloads = LEVELS.map(nested);
-    println!("\n**From 1 to 16 containers**, one in the other, round the same 64 items of 30 numbers: medians, in ns for the payload or an element.");
+    println!("\n**From 1 to 16 containers**, one in the other, round the same 64 items of 30 numbers: best rounds, in ns for the payload or an element.");
     head(&["What", "1 level", "2", "4", "8", "16", "a level more, from 1 to 8", "from 8 to 16"]);
     let walks = payloads.each_ref().map(|payload| walk_times(&[payload]));
     print_slopes("our walk, the payload", &walks.map(|times| times[0]));
