@@ -36,14 +36,14 @@ extern "C" {
 #define GPMF_PAST_END UINT32_C(2)        /* an item's payload runs past the end of its level, or of the payload given */
 #define GPMF_LEFT_OVER UINT32_C(3)       /* the search for a last item meets 1 to 7 bytes, too few for a header */
 #define GPMF_TOO_DEEP UINT32_C(4)        /* a container with a payload stands at depth 16 */
-#define GPMF_NO_ROOM UINT32_C(5)         /* a row does not fit the room */
+#define GPMF_NO_ROOM UINT32_C(5)         /* a row, or an element, does not fit the room */
 #define GPMF_TOO_FEW UINT32_C(6)         /* an item's payload has too few bytes for the shape of its value */
 #define GPMF_UNREADABLE UINT32_C(7)      /* a text of the value, or its date, is not readable */
 #define GPMF_LONG_TYPE UINT32_C(8)       /* a TYPE text expands to more than 256 characters */
 #define GPMF_BAD_AXES UINT32_C(9)        /* the strings of axes are not three ASCII characters each */
 #define GPMF_BAD_MATRIX UINT32_C(10)     /* a matrix is not nine numbers, or has a row with none above 0.5 or below -0.5 */
 #define GPMF_BAD_DURATIONS UINT32_C(11)  /* a duration list is over its limits, or has a duration that is not finite */
-#define GPMF_NO_ITEM UINT32_C(12)        /* at the place asked are fewer than 8 bytes, or an item of length 0; or, for a `?`, no TYPE */
+#define GPMF_NO_ITEM UINT32_C(12)        /* at the place asked are fewer than 8 bytes, or an item of length 0; or, for a `?`, no whole TYPE of one text at the place named */
 #define GPMF_OUTSIDE UINT32_C(13)        /* the row or the column asked lies outside the value */
 
 /* ---- limits and fixed numbers */
@@ -331,6 +331,11 @@ gpmf_shape_answer gpmf_shape_at(const uint8_t *s, size_t s_len, size_t at, size_
 /* The columns of a row: of a text, its bytes. Refused as gpmf_element; with 13 where the row lies outside. */
 gpmf_whole_answer gpmf_columns_at(const uint8_t *s, size_t s_len, size_t at, size_t type_at, size_t row);
 
+/* All elements of the value, row after row, and in a row column after column: each as one number in numbers[0 .. numbers_len), of which those behind the last element
+ * stay as they were. A signed element is its two's complement in 64 bits, a float its bits (gpmf_single_bits, gpmf_double_bits). How many there are. Refused as
+ * gpmf_shape_at; with 5, at the place asked, where they do not fit. */
+gpmf_whole_answer gpmf_elements_at(const uint8_t *s, size_t s_len, size_t at, size_t type_at, uint64_t *numbers, size_t numbers_len);
+
 /* The header of the item. Refused with 1, at place 0, or with 2 or 12, at the place asked. */
 gpmf_item_answer gpmf_klv_at(const uint8_t *s, size_t s_len, size_t at, size_t type_at);
 
@@ -426,7 +431,7 @@ gpmf_item_answer gpmf_tagged_item(const uint8_t *s, size_t s_len, const uint32_t
 /* Whether the value under a header is one number of a letter. */
 bool gpmf_is_one_number(gpmf_klv klv, uint8_t letter);
 
-/* The stamp of a group, in microseconds of the camera's clock: its STMP, if that is one J number or a date (of which these are the milliseconds as they are), else
+/* The stamp of a group, in microseconds of the camera's clock: its STMP, if that is one J number or a date (whose milliseconds are taken as they are), else
  * its TICK, if that is one L number, times 1000. GPMF_NOTHING where it has neither. Refused with 2, 6, 7 or 12 of STMP; else with 2 or 12 of TICK. */
 gpmf_whole_answer gpmf_stamp_us(const uint8_t *s, size_t s_len, const uint32_t *rows, size_t rows_len, size_t count, uint32_t group_kind, uint32_t group_key);
 
@@ -441,11 +446,11 @@ gpmf_quaternion gpmf_scaled(int16_t w, int16_t x, int16_t y, int16_t z, double s
 int16_t gpmf_negated(int16_t x);
 
 /* The axes of a group by its MTRX, or where it has none by its ORIN and ORIO. GPMF_NOTHING where it has not these, MTRX does not have two or more than
- * four f or q numbers a row, or ORIN or ORIO is not one text. Refused with 2, 6, 7, 8 or 12 of one of them; with 9 or 10, at place 0, as the calls on axes below. */
+ * four f or q numbers a row, or ORIN or ORIO is not one text. Refused with 2 or 12 of one of them; with 9 or 10, at place 0, as the calls on axes below. */
 gpmf_axes_answer gpmf_orientation_of_group(const uint8_t *payload, size_t payload_len, const uint32_t *rows, size_t rows_len, size_t count, uint32_t group_kind, uint32_t group_key);
 
 /* Milliseconds for a reading, on average over as many packets as the shortest list has: readings, whether stamped (not 0), stamps in microseconds, durations in
- * milliseconds, whether time is missing in front (not 0). GPMF_NOTHING where there are no readings. Refused with 11, at place 0. */
+ * milliseconds, whether time is missing since the last stamped packet (not 0). GPMF_NOTHING where there are no readings. Refused with 11, at place 0. */
 gpmf_real_answer gpmf_get_avg_sample_duration(const uint32_t *counts, size_t counts_len, const uint8_t *has_stamp, size_t has_stamp_len, const uint64_t *stamps, size_t stamps_len,
                                               const double *durations, size_t durations_len, const uint8_t *missing, size_t missing_len);
 
@@ -486,7 +491,7 @@ gpmf_packet_metadata_answer gpmf_next_metadata(gpmf_packets packets, const uint8
 gpmf_packet_metadata_answer gpmf_next_metadata_in(gpmf_packets packets, const uint8_t *window, size_t window_len, bool more, bool forced, uint32_t *rows, size_t rows_len);
 
 /* ---- printing: text is laid into out[0 .. out_len) from a place on, and the answer is the place behind it; what does not fit is not laid and the answer is
- * GPMF_FULL, and from GPMF_FULL on nothing is laid either, so that calls can follow each other unlooked-at. A call that lays several parts, as lines, leaves
+ * GPMF_FULL, and from GPMF_FULL on nothing is laid either, so that calls can follow one another without a test between them. A call that lays several parts, as lines, leaves
  * those that were laid before the first that does not fit */
 
 /* The listing of a payload: its first line, and a line a row; the rows go into `rows` as in gpmf_parse_metadata. */

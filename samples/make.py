@@ -53,9 +53,10 @@ def texts(key, *several):
     return item(key, "c", size, len(several), b"".join(each.encode("latin-1").ljust(size, b"\0") for each in several))
 
 
-def container(key, *parts):
+def container(key, *parts, size=1):
+    """A size of 4 lets a longer one be written."""
     inside = b"".join(parts)
-    return item(key, "\0", 1, len(inside), inside)
+    return item(key, "\0", size, len(inside) // size, inside)
 
 
 # ---- the take

@@ -500,6 +500,35 @@ static void shapes(void) {
     CHECK(whole_refused(gpmf_columns_at(NONE, 0, GPMF_NO_TYPE, 0), GPMF_NO_ITEM, 0));
 }
 
+/* All elements of an item's value, into eight numbers that hold 9 before: how many, and whether the others still do. */
+static bool all_elements_are(const uint8_t *s, size_t size, size_t at, size_t type_at, const uint64_t *expected, size_t count) {
+    uint64_t numbers[8] = {9, 9, 9, 9, 9, 9, 9, 9};
+    if (!whole_is(gpmf_elements_at(s, size, at, type_at, numbers, 8), count)) return false;
+    for (size_t n = 0; n < 8; n++) {
+        if (numbers[n] != (n < count ? expected[n] : 9)) return false;
+    }
+    return true;
+}
+
+/* They are refused, and none of two numbers is touched. */
+static bool all_elements_refused(const uint8_t *s, size_t size, size_t at, size_t lent, uint32_t number, size_t place) {
+    uint64_t numbers[2] = {9, 9};
+    return whole_refused(gpmf_elements_at(s, size, at, GPMF_NO_TYPE, numbers, lent), number, place) && numbers[0] == 9 && numbers[1] == 9;
+}
+
+static void all_elements(void) {
+    const uint64_t pairs[] = {1, UINT64_MAX, UINT64_MAX - 32767, 4}, structure[] = {7, 0x3fc00000}, bytes[] = {'d', 'e', 'g', 'm'};
+    CHECK(all_elements_are(TEXT("ABCDs\x04\x00\x02" "\x00\x01\xff\xff\x80\x00\x00\x04"), 0, GPMF_NO_TYPE, pairs, 4));
+    CHECK(all_elements_are(TEXT("TYPEc\x01\x00\x02" "Lf\x00\x00" "FACE?\x08\x00\x01" "\x00\x00\x00\x07\x3f\xc0\x00\x00"), 12, 0, structure, 2));
+    CHECK(all_elements_are(TEXT("UNITc\x03\x00\x02" "degm\x00\x00"), 0, GPMF_NO_TYPE, bytes, 4));
+    CHECK(all_elements_are(TEXT("ABCDw\x01\x00\x01" "1"), 0, GPMF_NO_TYPE, NULL, 0));
+    CHECK(all_elements_refused(TEXT("ABCDB\x01\x00\x02" "12"), 0, 1, GPMF_NO_ROOM, 0));
+    CHECK(all_elements_refused(TEXT("NAMEc\x02\x00\x02" "ab\xff" "c"), 0, 2, GPMF_UNREADABLE, 0));
+    CHECK(all_elements_refused(packet.bytes, 883, 864, 2, GPMF_PAST_END, 864));
+    CHECK(all_elements_refused(too_long(), GPMF_MOST_BYTES + 1, 8, 2, GPMF_TOO_LONG, 0));
+    CHECK(whole_refused(gpmf_elements_at(NONE, 0, GPMF_NO_TYPE, NULL, 0), GPMF_NO_ITEM, 0));
+}
+
 /* The header, the bytes and the texts of an item, as a view of it has them. */
 static void parts(void) {
     CHECK(item_is(gpmf_klv_at(packet.bytes, packet.size, 864, GPMF_NO_TYPE), 864, klv(MWET, 'B', 3, 4)));
@@ -668,23 +697,28 @@ static gpmf_quaternion_answer quaternion_of(const uint8_t *s, size_t size) {
     size_t count = gpmf_parse_metadata(s, size, false, numbers, 24).rows;
     return gpmf_scaled_quaternion(s, size, numbers, 24, count, GPMF_GROUP_CALLER, 0, 0);
 }
-static gpmf_axes_answer axes_of(const uint8_t *s, size_t size) {
+/* The same where the payload's last bytes are missing after its rows are written. */
+static gpmf_axes_answer axes_without(const uint8_t *s, size_t size, size_t missing) {
     uint32_t *numbers = lend(24);
     size_t count = gpmf_parse_metadata(s, size, false, numbers, 24).rows;
-    return gpmf_orientation_of_group(s, size, numbers, 24, count, GPMF_GROUP_CALLER, 0);
+    return gpmf_orientation_of_group(s, size - missing, numbers, 24, count, GPMF_GROUP_CALLER, 0);
+}
+static gpmf_axes_answer axes_of(const uint8_t *s, size_t size) {
+    return axes_without(s, size, 0);
 }
 
 /* What is refused of an item has the place of its row, and what is refused of axes has none. */
 static void group_refusals(void) {
     gpmf_quaternion_answer few = quaternion_of(TEXT(FIRST "CORIs\x02\x00\x01" "12\x00\x00"));
-    gpmf_axes_answer unreadable = axes_of(TEXT(FIRST "ORINc\x02\x00\x02" "ab\xff" "c" "ORIOc\x01\x00\x03" "XYZ\x00"));
+    gpmf_axes_answer past = axes_without(TEXT(FIRST "MTRXf\x08\x00\x01" "12345678"), 1);
     CHECK(whole_is(stamp_of(TEXT(FIRST "STMPU\x10\x00\x01" "240229120000.000")), UINT64_C(1709208000000)));
     CHECK(whole_refused(stamp_of(TEXT(FIRST "STMPU\x10\x00\x01" "24022912000x.000")), GPMF_UNREADABLE, 12));
     CHECK(whole_refused(stamp_of(TEXT(FIRST "STMPU\x08\x00\x01" "24022912")), GPMF_TOO_FEW, 12));
     CHECK(whole_is(stamp_of(TEXT(FIRST "STMPJ\x01\x00\x01" "1\x00\x00\x00" "TICKL\x04\x00\x01\x00\x00\x00\x05")), 5000));
     CHECK(whole_nothing(stamp_of(TEXT(FIRST "TICKL\x04\x00\x02\x00\x00\x00\x05\x00\x00\x00\x06"))));
     CHECK(few.kind == GPMF_REFUSED && few.number == GPMF_TOO_FEW && few.place == 12 && quaternion_is(few.quaternion, 0, 0, 0, 0));
-    CHECK(unreadable.kind == GPMF_REFUSED && unreadable.number == GPMF_UNREADABLE && unreadable.place == 12 && same_axes(unreadable.axes, axes(0, 0, 0)));
+    CHECK(past.kind == GPMF_REFUSED && past.number == GPMF_PAST_END && past.place == 12 && same_axes(past.axes, axes(0, 0, 0)));
+    CHECK(axes_nothing(axes_of(TEXT(FIRST "ORINc\x02\x00\x02" "ab\xff" "c" "ORIOc\x01\x00\x03" "XYZ\x00"))));
     CHECK(axes_refused(axes_of(TEXT(FIRST "ORINc\x01\x00\x04" "XYZA" "ORIOc\x01\x00\x03" "XYZ\x00")), GPMF_BAD_AXES));
     CHECK(axes_refused(axes_of(TEXT(FIRST "MTRXf\x08\x00\x01" "12345678")), GPMF_BAD_MATRIX));
     CHECK(axes_nothing(axes_of(TEXT(FIRST "MTRXf\x0c\x00\x01" "123456789abc"))) && axes_nothing(axes_of(TEXT(FIRST "ORINc\x01\x00\x03" "XYZ\x00"))));
@@ -897,6 +931,7 @@ int main(int count, char **words) {
     last_items();
     elements();
     shapes();
+    all_elements();
     parts();
     items();
     numbers_at_places();

@@ -41,6 +41,7 @@ from typing import Any, BinaryIO, Deque, Dict, Iterable, Iterator, List, NamedTu
 
 Bytes = Union[bytes, bytearray, memoryview]
 Numbers = Union["array.array[int]", memoryview]  # of 32 bits each, without a sign
+LongNumbers = Union["array.array[int]", memoryview]  # of 64
 Number = Union[int, float]
 Value = Union[None, int, float, str, datetime.datetime, List[Number], List[str], List[List[Number]]]
 
@@ -214,6 +215,7 @@ _CALLS: Dict[str, Tuple[Any, ...]] = {
     "gpmf_element": (gpmf_element_answer, *_MEMORY, c_size_t, c_size_t, c_size_t, c_size_t),
     "gpmf_shape_at": (gpmf_shape_answer, *_MEMORY, c_size_t, c_size_t),
     "gpmf_columns_at": (gpmf_whole_answer, *_MEMORY, c_size_t, c_size_t, c_size_t),
+    "gpmf_elements_at": (gpmf_whole_answer, *_MEMORY, c_size_t, c_size_t, *_MEMORY),
     "gpmf_klv_at": (gpmf_item_answer, *_MEMORY, c_size_t, c_size_t),
     "gpmf_bytes_at": (gpmf_part_answer, *_MEMORY, c_size_t, c_size_t),
     "gpmf_text_at": (gpmf_part_answer, *_MEMORY, c_size_t, c_size_t, c_size_t),
@@ -413,6 +415,14 @@ def _numbers(memory: Numbers, written: bool = False) -> _Lent:
     view = memoryview(memory)
     if view.format.lstrip("@=<") not in ("I", "L") or view.itemsize != 4:
         raise TypeError("numbers of 32 bits are wanted, as in array.array('I')")
+    return _Lent(view, written)
+
+
+def _long_numbers(memory: LongNumbers, written: bool = False) -> _Lent:
+    """Numbers of 64 bits without a sign, where they lie."""
+    view = memoryview(memory)
+    if view.format.lstrip("@=<") not in ("Q", "L") or view.itemsize != 8:
+        raise TypeError("numbers of 64 bits are wanted, as in array.array('Q')")
     return _Lent(view, written)
 
 
@@ -808,6 +818,13 @@ def elements(payload: Bytes, item: ItemOrPlace, type_place: Optional[int] = None
             answers = [_C.gpmf_element(*lent, at, type_at, row, column) for column in range(has.columns)]
             found.append([_number(answer.element) for answer in answers if _is(answer)])
     return found
+
+
+def elements_at(payload: Bytes, item: ItemOrPlace, numbers: LongNumbers, type_place: Optional[int] = None) -> int:
+    """All elements of an item's value, each as one number, row after row and in a row column after column; how many there are. The numbers behind them stay as they were.
+    A signed element is its two's complement in 64 bits, a float its bits (single_bits, double_bits). Refused as a shape is; with 5, at the item's place, where they do
+    not fit. Where it is refused, all numbers stay as they were."""
+    return _whole(_call("gpmf_elements_at", _bytes(payload), *_place_and_type(item, type_place), _long_numbers(numbers, written=True)))
 
 
 def _kept(payload: Bytes, at: int, has: Shape) -> Iterator[bytes]:
@@ -1274,7 +1291,7 @@ def negated(x: int) -> int:
 
 def orientation_of_group(payload: Bytes, rows: Numbers, count: int, group_kind: int, group_key: int) -> Optional[str]:
     """The axes of a group by its MTRX, or where it has none by its ORIN and ORIO; None where it has not these, or their types are others. Refused with 1, with 5 as
-    lookup, with 2, 6, 7, 8 or 12 at the place of one of them, and with 9 or 10 as the calls on axes."""
+    lookup, with 2 or 12 at the place of one of them, and with 9 or 10 as the calls on axes."""
     return _axes_or_none(_call("gpmf_orientation_of_group", *_of_group(payload, rows, count, group_kind, group_key)))
 
 

@@ -14,6 +14,13 @@ CASE_12 = bytes.fromhex("5354524d000100145343414c73020001000100004759524f7306000
 UTC = datetime.timezone.utc
 
 
+def bits(number, letter):
+    """An element as one number: an f32 of the letters f and q, and of the structure here."""
+    if isinstance(number, int):
+        return number % 2**64
+    return (gpmf.single_bits if letter in "fq?" else gpmf.double_bits)(number)
+
+
 class Refusing(unittest.TestCase):
     def refused(self, number, place, call, *words, **named):
         with self.assertRaises(gpmf.Refusal) as caught:
@@ -105,6 +112,25 @@ class Values(Refusing):
                 self.assertEqual((gpmf.shape(payload, 0).kind, gpmf.value(payload, 0)), (kind, expected))
                 self.assertEqual(gpmf.elements(payload, 0), [[gpmf.element(payload, 0, n, c) for c in range(gpmf.columns(payload, 0, n))] for n in range(gpmf.shape(payload, 0).rows)])
         self.assertEqual({kind for kind, _, _ in cases} | {gpmf.Kind.STRUCTURES}, set(gpmf.Kind))
+
+    def test_all_elements_are_the_single_ones(self):
+        structures = item("TYPE", "c", 1, 3, b"bLf") + item("ABCD", "?", 9, 2, b"\xff\0\0\0\7\x3f\xc0\0\0" * 2)
+        cases = [(letter, item("ABCD", letter, 8, 2, b"\xff" * 8 + b"\x12\x34\x56\x78\x9a\xbc\xde\xf0"), 0, None) for letter in "bBsSlLfqdjJQ"]
+        cases += [("c", item("ABCD", "c", 3, 2, b"degm\0\0"), 0, None), ("U", item("ABCD", "U", 16, 1, b"240229235958.400"), 0, None), ("?", structures, 12, 0)]
+        for letter, payload, place, type_place in cases:
+            with self.subTest(letter):
+                single = [bits(each, letter) for row in gpmf.elements(payload, place, type_place) for each in row]
+                numbers = array.array("Q", [9] * (len(single) + 1))
+                self.assertEqual(gpmf.elements_at(payload, place, numbers, type_place), len(single))
+                self.assertEqual(numbers.tolist(), [*single, 9])
+                short = array.array("Q", [9] * (len(single) - 1))
+                self.refused(5, place, gpmf.elements_at, payload, place, short, type_place)
+                self.assertEqual(short.tolist(), [9] * (len(single) - 1))
+        kept = array.array("Q", [9] * 4)
+        self.refused(7, 0, gpmf.elements_at, item("ABCD", "c", 2, 2, b"ab\xffc"), 0, kept)
+        self.refused(1, 0, gpmf.elements_at, bytes(gpmf.MOST_BYTES + 1), 0, kept)
+        self.refused(12, 1, gpmf.elements_at, bytes(8), 1, kept)
+        self.assertEqual(kept.tolist(), [9] * 4)
 
     def test_structures_by_their_type(self):
         payload = item("TYPE", "c", 1, 5, b"b[2]L") + item("ABCD", "?", 6, 2, b"\xff\1\0\0\0\7\2\3\0\0\0\x08")

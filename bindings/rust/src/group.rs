@@ -99,7 +99,7 @@ pub fn negated(x: i16) -> i16 {
 }
 
 /// The axes of a group by its MTRX, or where it has none by its ORIN and ORIO; none where it has not these, or their types are others. Refused with 1, with 5 as
-/// [`lookup`](crate::lookup), with 2, 6, 7, 8 or 12 at the place of one of them, and with 9 or 10 as the calls on axes.
+/// [`lookup`](crate::lookup), with 2 or 12 at the place of one of them, and with 9 or 10 as the calls on axes.
 ///
 /// ```
 /// let payload = b"ORINc\x01\x00\x03YxZ\0ORIOc\x01\x00\x03XYZ\0";

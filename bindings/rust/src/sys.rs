@@ -68,6 +68,7 @@ extern "C" {
     pub fn gpmf_element(s: *const u8, s_len: usize, at: usize, type_at: usize, row: usize, column: usize) -> ElementAnswer;
     pub fn gpmf_shape_at(s: *const u8, s_len: usize, at: usize, type_at: usize) -> ShapeAnswer;
     pub fn gpmf_columns_at(s: *const u8, s_len: usize, at: usize, type_at: usize, row: usize) -> WholeAnswer;
+    pub fn gpmf_elements_at(s: *const u8, s_len: usize, at: usize, type_at: usize, numbers: *mut u64, numbers_len: usize) -> WholeAnswer;
     pub fn gpmf_klv_at(s: *const u8, s_len: usize, at: usize, type_at: usize) -> ItemAnswer;
     pub fn gpmf_bytes_at(s: *const u8, s_len: usize, at: usize, type_at: usize) -> PartAnswer;
     pub fn gpmf_text_at(s: *const u8, s_len: usize, at: usize, type_at: usize, row: usize) -> PartAnswer;

@@ -121,6 +121,22 @@ pub fn columns_at(bytes: &[u8], at: usize, type_place: Option<usize>, row: usize
     is(a.kind, a.number, a.place, a.value as usize)
 }
 
+/// All elements of the value of the item at a place, each as one number, row after row and in a row column after column; how many there are. The numbers behind them
+/// stay as they were. A signed element is its two's complement in 64 bits, a float its bits ([`single_bits`](crate::single_bits), [`double_bits`](crate::double_bits)).
+/// Refused as [`shape_at`]; with 5, at the place asked, where they do not fit. Where it is refused, all numbers stay as they were.
+///
+/// ```
+/// let item = b"AALPb\x02\x00\x02\xdd\xe5\xda\xe8";
+/// let mut numbers = [0; 5];
+/// assert_eq!(gpmf::elements_at(item, 0, None, &mut numbers), Ok(4));
+/// assert_eq!(numbers.map(|n| n as i64), [-35, -27, -38, -24, 0]);
+/// assert_eq!(gpmf::elements_at(item, 0, None, &mut numbers[..3]).unwrap_err().number, gpmf::Refusal::NO_ROOM);
+/// ```
+pub fn elements_at(bytes: &[u8], at: usize, type_place: Option<usize>, numbers: &mut [u64]) -> Result<usize, Refusal> {
+    let a = unsafe { sys::gpmf_elements_at(bytes.as_ptr(), bytes.len(), at, type_at(type_place), numbers.as_mut_ptr(), numbers.len()) };
+    is(a.kind, a.number, a.place, a.value as usize)
+}
+
 /// The header of the item at a place that has a value. Refused with 1, at place 0, or with 2 or 12, at the place asked.
 ///
 /// ```

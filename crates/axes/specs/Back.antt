@@ -12,9 +12,11 @@ use Rattle.axes.specs.declared.Axes.{Axes}
 use Rattle.axes.specs.declared.Orientation.{Orientation}
 use Rattle.axes.specs.declared.Orientation.the-variants.{Is, Refused}
 
+-- 0.5
 abbrev pub half : Float
 half = fin false 1 (negsuc 0)
 
+-- -0.5
 abbrev pub minusHalf : Float
 minusHalf = fin true 1 (negsuc 0)
 

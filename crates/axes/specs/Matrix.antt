@@ -14,6 +14,7 @@ use Rattle.axes.specs.declared.Orientations.the-variants.{Are, Refused}
 
 -- ---- the texts
 
+-- an ASCII character
 abbrev pub ascii : ℕ → Bool
 ascii c = ltb c 128
 
@@ -31,12 +32,15 @@ orientationsOf orin orio = cond (threeAscii orin && threeAscii orio) (Are (axesO
 
 -- ---- the matrix
 
+-- 1
 abbrev pub one : Float
 one = fin false 1 (pos 0)
 
+-- -1
 abbrev pub minusOne : Float
 minusOne = fin true 1 (pos 0)
 
+-- 0
 abbrev pub nought : Float
 nought = fin false 0 (pos 0)
 

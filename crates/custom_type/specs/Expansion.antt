@@ -38,6 +38,7 @@ pub data Mark : Type 0 where
   closes : Mark  -- `]`
   letter : Mark  -- any other
 
+-- the mark that a character is
 abbrev pub markOf : ℕ → Mark
 markOf c = cond (eqb c (code "[")) opens (cond (eqb c (code "]")) closes letter)
 
@@ -55,6 +56,7 @@ abbrev pub letterBy : Bool → Expansion → ℕ → Expansion
 letterBy true x c = record { written = x .written; collecting = true; collected = x .collected ++ c ∷ [] }
 letterBy false x c = record { written = x .written ++ c ∷ []; collecting = false; collected = x .collected }
 
+-- any other character, where it stands
 abbrev pub withLetter : Expansion → ℕ → Expansion
 withLetter x c = letterBy (x .collecting) x c
 

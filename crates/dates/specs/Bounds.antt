@@ -28,11 +28,12 @@ abbrev pub AYear : Number → Type 0
 AYear (number.Is n) = (1991 ≤ n) × (n < 2100)
 AYear number.Unreadable = Unit
 
+-- a day of such a year
 pub record YearBounds (d : Day) : Type 0 where
   pub first-year : 1991 ≤ d .year
   pub last-year : d .year < 2100
 
--- a day and a time that the calendar has, in such a year
+-- a day that the calendar has, in such a year
 pub record DayBounds (d : Day) : Type 0 where
   pub years : YearBounds d
   pub first-month : 1 ≤ d .month
@@ -40,17 +41,19 @@ pub record DayBounds (d : Day) : Type 0 where
   pub first-day : 1 ≤ d .day
   pub last-day : d .day ≤ 31
 
+-- a time that a clock has
 pub record TimeBounds (t : Time) : Type 0 where
   pub hours : t .hour < 24
   pub minutes : t .minute < 60
   pub seconds : t .second < 60
   pub milliseconds : t .millisecond < 1000
 
--- a day and a time as they can be read
+-- a day as it can be read
 abbrev pub DayInRange : ReadDay → Type 0
 DayInRange (day.Is d) = YearBounds d
 DayInRange day.Unreadable = Unit
 
+-- a time as it can be read
 abbrev pub TimeInRange : ReadTime → Type 0
 TimeInRange (time.Is t) = t .millisecond < 1000
 TimeInRange time.Unreadable = Unit

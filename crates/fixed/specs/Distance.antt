@@ -20,10 +20,12 @@ Apart a b p q = natAbs (a .numerator *ℤ pos (b .denominator) -ℤ b .numerator
 
 -- ---- floats: a finite one is m × 2 ^ e with its sign, and 2 ^ e is the fraction up e / down e (lib.Ieee)
 
+-- a number with its sign
 abbrev pub signed : Bool → ℕ → ℤ
 signed false n = pos n
 signed true n = negℤ (pos n)
 
+-- a finite float as a fraction
 abbrev pub value : Bool → ℕ → ℤ → Exact
 value s m e = record { numerator = signed s (m * up e); denominator = down e }
 

@@ -7,7 +7,7 @@ use Rattle.fixed.specs.declared.Exact.{Exact}
 
 -- ---- a whole part and a fraction: high + low / divisor
 
--- as two whole numbers: "high × divisor + low, and the divisor" (document 01, Values)
+-- as two whole numbers: high × divisor + low, and the divisor (document 01, Values)
 abbrev pub exactForm : ℕ → ℤ → ℕ → Exact
 exactForm divisor high low = record { numerator = high *ℤ pos divisor +ℤ pos low; denominator = divisor }
 
@@ -21,6 +21,7 @@ reading f divisor high low = add f (ofInt f high) (quotient f divisor low)
 
 -- ---- q, Q15.16
 
+-- a fraction of 16 bits counts in units of 1/65536 (GPMF description, Types)
 abbrev pub divisor15-16 : ℕ
 divisor15-16 = 65536
 

@@ -15,10 +15,12 @@ use Rattle.raw_file.specs.Packets.{nextPacket}
 use Rattle.raw_file.specs.Window.{inWindow}
 use Rattle.raw_metadata.specs.Readings.{metadataOf, lentFor}
 use Rattle.raw_metadata.specs.Window.{metadataIn, lentIn}
+use Rattle.items.specs.At.{Found}
+use Rattle.all_elements.specs.Laid.{toldOfFound, lentOfFound}
 use Rattle.answers.specs.declared.WholeAnswer.{WholeAnswer}
 use Rattle.answers.specs.declared.MetadataAnswer.{MetadataAnswer}
 use Rattle.answers.specs.declared.PacketMetadataAnswer.{PacketMetadataAnswer}
-use Rattle.answers.specs.Answers.{ofExpanded, ofMetadata, ofNextMetadata, ofMetadataInWindow, ofDecoded}
+use Rattle.answers.specs.Answers.{ofExpanded, ofElements, ofMetadata, ofNextMetadata, ofMetadataInWindow, ofDecoded}
 
 -- a TYPE text written out
 pub record ResolvedAs (text a b : List ℕ) (r : WholeAnswer) : Type 0 where
@@ -44,3 +46,8 @@ pub record ReadInWindowAs (forced : Bool) (bytes : List ℕ) (more : Bool) (at :
 pub record DecodesAs (s out : List ℕ) (answer : WholeAnswer) (after : List ℕ) : Type 0 where
   pub is : answer ≡ ofDecoded (decoded s out)
   pub leaves : after ≡ decodedInto s out
+
+-- all elements of the value of what was found at a place
+pub record ElementsAs (f : Found) (at : ℕ) (old : List ℕ) (answer : WholeAnswer) (new : List ℕ) : Type 0 where
+  pub is : answer ≡ ofElements (toldOfFound f at (length old))
+  pub numbers : new ≡ lentOfFound f old

@@ -1,17 +1,18 @@
 // What the rows of a group lead to.
 use answers::ItemAnswer;
-use answers::QuaternionAnswer;
-use answers::RealAnswer;
 use answers::WholeAnswer;
 use klv::KLV;
 use quaternions::Quaternion;
+use value_answers::QuaternionAnswer;
+use value_answers::RealAnswer;
 ghost use mathlib.Core.Path.{_≡_};
 ghost use Rattle.tagged.specs.Tagged.{taggedOf, oneNumber};
 ghost use Rattle.quaternions.specs.Quaternion.{negated16, scaledBy};
 ghost use Rattle.quaternions.specs.Scaled.{quaternionOf};
 ghost use Rattle.stamps.specs.Stamp.{stampOf};
 ghost use Rattle.durations.specs.Average.{averageOf};
-ghost use Rattle.answers.specs.Answers.{ofTagged, ofScaledRow, ofStamp, ofAverage};
+ghost use Rattle.answers.specs.Answers.{ofTagged, ofStamp};
+ghost use Rattle.value_answers.specs.Answers.{ofScaledRow, ofAverage};
 
 // The item of a group and tag.
 #[no_mangle]
@@ -65,7 +66,7 @@ pub extern "C" fn gpmf_scaled_quaternion(
 ) -> QuaternionAnswer
     ensures { λ r. ⌜ r ≡ ofScaledRow (quaternionOf (now (s .entry)) (now (rows .entry)) count «group_kind» «group_key» row) ⌝ }
 {
-    answers::of_scaled_row(quaternions::scaled_quaternion(
+    value_answers::of_scaled_row(quaternions::scaled_quaternion(
         s,
         rows,
         count,
@@ -100,7 +101,7 @@ pub extern "C" fn gpmf_get_avg_sample_duration(
 ) -> RealAnswer
     ensures { λ r. ⌜ r ≡ ofAverage (averageOf (now (counts .entry)) (now («has_stamp» .entry)) (now (stamps .entry)) (now (durations .entry)) (now (missing .entry))) ⌝ }
 {
-    answers::of_average(durations::get_avg_sample_duration(
+    value_answers::of_average(durations::get_avg_sample_duration(
         counts,
         has_stamp,
         stamps,

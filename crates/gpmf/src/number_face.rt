@@ -1,13 +1,13 @@
 // Numbers of a value.
-use answers::Number;
 use fixed::Exact;
+use value_answers::Number;
 ghost use mathlib.Core.Path.{_≡_};
 ghost use Prim.Native.Nat.{_≤_};
 ghost use Rattle.fixed.specs.Fixed.{q15-16, q31-32, q31-32-exact};
 ghost use Rattle.elements.specs.Types.{widthOf};
 ghost use Rattle.elements.specs.Element.{elementAt, exactAt};
 ghost use Rattle.float_bits.specs.FloatBits.{singleBits, doubleBits};
-ghost use Rattle.answers.specs.Answers.{ofElement};
+ghost use Rattle.value_answers.specs.Answers.{ofElement};
 
 // A number of 15 and 16 bits.
 #[no_mangle]
@@ -46,7 +46,7 @@ pub extern "C" fn gpmf_width(letter: u8) -> usize
 pub extern "C" fn gpmf_element_at(s: &[u8], at: usize, letter: u8) -> Number
     ensures { λ r. ⌜ r ≡ ofElement (elementAt (now (s .entry)) at letter) ⌝ }
 {
-    answers::of_element(elements::element_at(s, at, letter))
+    value_answers::of_element(elements::element_at(s, at, letter))
 }
 
 // The exact form of the Q number at a place.

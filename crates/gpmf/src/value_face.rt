@@ -1,14 +1,16 @@
 // Values of the item at a place.
-use answers::ElementAnswer;
 use answers::ItemAnswer;
 use answers::PartAnswer;
-use answers::ShapeAnswer;
 use answers::WholeAnswer;
+use value_answers::ElementAnswer;
+use value_answers::ShapeAnswer;
 ghost use mathlib.Core.Path.{_≡_};
 ghost use Rattle.items.specs.At.{foundAt};
 ghost use Rattle.values.specs.At.{klvOfFound, elementOfFound, shapeOfFound, columnsOfFound};
 ghost use Rattle.view.specs.Parts.{bytesOfFound, textOfFound};
-ghost use Rattle.answers.specs.Answers.{ofHeaded, ofRead, ofShaped, ofColumns, ofPart};
+ghost use Rattle.gpmf.specs.Lent.{ElementsAs};
+ghost use Rattle.answers.specs.Answers.{ofHeaded, ofColumns, ofPart};
+ghost use Rattle.value_answers.specs.Answers.{ofRead, ofShaped};
 
 // The element at a row and a column, by way of a view.
 #[no_mangle]
@@ -21,7 +23,7 @@ pub extern "C" fn gpmf_element(
 ) -> ElementAnswer
     ensures { λ r. ⌜ r ≡ ofRead (elementOfFound (foundAt (now (s .entry)) at «type_at») at row column) ⌝ }
 {
-    answers::of_read(view::viewed_element(s, at, type_at, row, column))
+    value_answers::of_read(view::viewed_element(s, at, type_at, row, column))
 }
 
 // What a value is called, its rows, and the columns of its first row.
@@ -29,7 +31,7 @@ pub extern "C" fn gpmf_element(
 pub extern "C" fn gpmf_shape_at(s: &[u8], at: usize, type_at: usize) -> ShapeAnswer
     ensures { λ r. ⌜ r ≡ ofShaped (shapeOfFound (foundAt (now (s .entry)) at «type_at») at) ⌝ }
 {
-    answers::of_shaped(values::shape_at(s, at, type_at))
+    value_answers::of_shaped(values::shape_at(s, at, type_at))
 }
 
 // The columns of a row.
@@ -62,4 +64,17 @@ pub extern "C" fn gpmf_text_at(s: &[u8], at: usize, type_at: usize, row: usize) 
     ensures { λ r. ⌜ r ≡ ofPart (textOfFound (foundAt (now (s .entry)) at «type_at») at row) ⌝ }
 {
     answers::of_part(view::text_at(s, at, type_at, row))
+}
+
+// All elements of the value, by their bits, into the lent numbers.
+#[no_mangle]
+pub extern "C" fn gpmf_elements_at(
+    s: &[u8],
+    at: usize,
+    type_at: usize,
+    numbers: &mut [u64],
+) -> WholeAnswer
+    ensures { λ r. ⌜ ElementsAs (foundAt (now (s .entry)) at «type_at») at (now (numbers .entry)) r (now (numbers .exit)) ⌝ }
+{
+    answers::of_elements(all_elements::elements_at(s, at, type_at, numbers))
 }

@@ -12,10 +12,24 @@ const TOO_LONG: u32 = 1;
 fn main() {
     let mut input = [0u8; 65537];
     let count = io::read_full(libc::STDIN_FILENO, &mut input);
+    if count < input.len() {
+        if goes_on() {
+            io::write_all(libc::STDERR_FILENO, b"gpmf_list: reading failed\n");
+            return;
+        }
+    }
     let mut rows = [0u32; 16384];
     let mut out = [0u8; 131072];
     let end = print(&input[..count], &mut rows, &mut out);
-    io::write_all(libc::STDOUT_FILENO, &out[..end]);
+    if !io::write_all(libc::STDOUT_FILENO, &out[..end]) {
+        io::write_all(libc::STDERR_FILENO, b"gpmf_list: writing failed\n");
+    }
+}
+
+// Whether the input is not at its end, where a read has stopped: then that read failed.
+fn goes_on() -> bool {
+    let mut one = [0u8; 1];
+    libc::read(libc::STDIN_FILENO, &mut one) != 0
 }
 
 // Lays all that is printed for a payload, which always fits.

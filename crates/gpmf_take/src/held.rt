@@ -63,11 +63,23 @@ fn read_on(held: Held, from: usize, bytes: &mut [u8]) -> Held {
     let kept = keep(bytes, from, held.count);
     let mut chunk = io::large_buffer();
     let got = io::read_full(libc::STDIN_FILENO, &mut chunk);
+    let ended = got < chunk.len();
+    if ended {
+        say_unread();
+    }
     Held {
         count: text::put_bytes(bytes, kept, &chunk[..got]),
         base: in_file(held, from),
         at: 0,
-        ended: got < chunk.len(),
+        ended,
+    }
+}
+
+// Where the input is not at its end although a read has stopped, that read failed: says so.
+fn say_unread() {
+    let mut one = [0u8; 1];
+    if libc::read(libc::STDIN_FILENO, &mut one) != 0 {
+        io::write_all(libc::STDERR_FILENO, b"gpmf_take: reading failed\n");
     }
 }
 

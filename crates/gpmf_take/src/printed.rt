@@ -118,8 +118,7 @@ fn make_room(out: &[u8], laid: usize) -> usize {
     if laid < MOST_PRINTED {
         return laid;
     }
-    write(out, laid);
-    0
+    write(out, laid)
 }
 
 // Prints the last line, and writes all that is laid.
@@ -130,6 +129,14 @@ pub(crate) fn put_totals(counts: Counts, out: &mut [u8]) {
     write(out, end);
 }
 
-fn write(out: &[u8], laid: usize) {
-    io::write_all(libc::STDOUT_FILENO, crate::held::first(out, laid));
+// Writes what is laid, and answers where the next goes: from a write that fails on, which is said, nothing is laid.
+fn write(out: &[u8], laid: usize) -> usize {
+    if laid == text::FULL {
+        return laid;
+    }
+    if io::write_all(libc::STDOUT_FILENO, crate::held::first(out, laid)) {
+        return 0;
+    }
+    io::write_all(libc::STDERR_FILENO, b"gpmf_take: writing failed\n");
+    text::FULL
 }

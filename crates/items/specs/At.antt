@@ -7,6 +7,7 @@ use mathlib.Core.List.{List, [], _∷_}
 use lib.Dec.{eqb, ltb}
 use lib.ListN.{length, drop}
 use Rattle.klv.specs.declared.KLV.{KLV}
+use Rattle.klv.specs.Limits.{mostBytes, noPlace}
 use Rattle.klv.specs.Item.{headerOf, First, few, past, item, firstItem}
 use Rattle.klv.specs.OneText.{typeText}
 use Rattle.texts.specs.Kept.{kept}
@@ -18,6 +19,7 @@ pub data Named : Type 0 where
   named : List ℕ → Named
   bad : Named
 
+-- of what stands first at that place, without its trailing zeros
 abbrev pub typeOf : First → Named
 typeOf few = bad
 typeOf past = bad
@@ -25,7 +27,7 @@ typeOf (item h payload rest) = cond (typeText h && ltb 0 (length payload)) (name
 
 -- 4,294,967,295 names none
 unfoldable pub typeAt : List ℕ → ℕ → Named
-typeAt s at = cond (eqb at 4294967295) (named []) (typeOf (firstItem (drop at s)))
+typeAt s at = cond (eqb at noPlace) (named []) (typeOf (firstItem (drop at s)))
 
 -- only a structure asks for it
 abbrev pub typeFor : ℕ → List ℕ → ℕ → Named
@@ -43,6 +45,7 @@ abbrev pub overIf : Named → ℕ → Found
 overIf (named type) at = stopped 2 at
 overIf bad at = stopped 12 at
 
+-- an item whose payload is all there, by the TYPE that it asks for
 abbrev pub wholeIf : Named → KLV → List ℕ → ℕ → Found
 wholeIf (named type) h payload at = found h payload type
 wholeIf bad h payload at = stopped 12 at
@@ -56,4 +59,4 @@ foundBy (item h (b ∷ payload) rest) s at typePlace = wholeIf (typeFor (h .«da
 
 -- 1: the payload is over the limit, at place 0
 unfoldable pub foundAt : List ℕ → ℕ → ℕ → Found
-foundAt s at typePlace = cond (ltb 1048576 (length s)) (stopped 1 0) (foundBy (firstItem (drop at s)) s at typePlace)
+foundAt s at typePlace = cond (ltb mostBytes (length s)) (stopped 1 0) (foundBy (firstItem (drop at s)) s at typePlace)

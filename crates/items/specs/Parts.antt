@@ -6,6 +6,7 @@ use mathlib.Core.Bool.{cond}
 use mathlib.Core.List.{List}
 use lib.Dec.{eqb}
 use lib.ListN.{length, take, drop}
+use Rattle.klv.specs.Limits.{noPlace}
 use Rattle.items.specs.declared.TypeText.{TypeText}
 use Rattle.items.specs.declared.TypeText.the-variants as type
 use Rattle.items.specs.declared.Found.{Found}
@@ -26,7 +27,7 @@ pub record IsPart (start end : ℕ) (s : List ℕ) : Type 0 where
 
 -- the text of a TYPE begins behind its header; where 4,294,967,295 names none, at 0
 abbrev pub textAt : ℕ → ℕ
-textAt at = cond (eqb at 4294967295) 0 (at + 8)
+textAt at = cond (eqb at noPlace) 0 (at + 8)
 
 -- only a structure asks for it
 abbrev pub textFor : ℕ → ℕ → ℕ
@@ -37,14 +38,17 @@ abbrev pub typeTold : List ℕ → TypeText → Named
 typeTold s (type.At start end) = named (between start end s)
 typeTold s type.Bad = bad
 
+-- these places are places of what was lent
 abbrev pub TypeInside : List ℕ → TypeText → Type 0
 TypeInside s (type.At start end) = IsPart start end s
 TypeInside s type.Bad = Unit {0}
 
+-- the text begins at a place
 abbrev pub Begins : ℕ → TypeText → Type 0
 Begins from (type.At start end) = start ≡ from
 Begins from type.Bad = Unit {0}
 
+-- an answer tells a TYPE text that begins at a place
 pub record TypeIs (s : List ℕ) (n : Named) (from : ℕ) (r : TypeText) : Type 0 where
   pub told : typeTold s r ≡ n
   pub inside : TypeInside s r
@@ -63,6 +67,7 @@ abbrev pub itemTold : List ℕ → Found → At.Found
 itemTold s (place.Item h start end from to) = found h (between start end s) (between from to s)
 itemTold s (place.Refused number at) = stopped number at
 
+-- these places are places of what was lent
 abbrev pub ItemInside : List ℕ → Found → Type 0
 ItemInside s (place.Item h start end from to) = IsPart start end s × IsPart from to s
 ItemInside s (place.Refused number at) = Unit {0}

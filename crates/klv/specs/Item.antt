@@ -31,6 +31,7 @@ pub data First : Type 0 where
 abbrev pub behind : KLV → List ℕ → First
 behind h s = cond (leb (dataLen h) (length s)) (item h (take (dataLen h) s) (drop (aligned (dataLen h)) s)) past
 
+-- what stands first: a header takes 8 bytes
 unfoldable pub firstItem : List ℕ → First
 firstItem s = cond (ltb (length s) 8) few (behind (headerOf s) (drop 8 s))
 

@@ -7,6 +7,7 @@ use Rattle.foundation.specs.Fuel.{fix}
 use Rattle.klv.specs.declared.KLV.{KLV}
 use Rattle.klv.specs.Item.{First, few, past, item, firstItem}
 
+-- a level: its items one behind the other, and how it ends
 pub data Level : Type 0 where
   left : ℕ → Level  -- no more items: so many bytes are left over, fewer than 8
   broken : Level  -- the next item's payload runs past the end of the level
@@ -18,6 +19,7 @@ levelFrom items s few = left (length s)
 levelFrom items s past = broken
 levelFrom items s (item h payload rest) = node h payload (items payload) (items rest)
 
+-- one step of the splitting
 abbrev pub stepItems : (List ℕ → Level) → List ℕ → Level
 stepItems items s = levelFrom items s (firstItem s)
 

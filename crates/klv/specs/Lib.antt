@@ -2,3 +2,4 @@ pub mod Item
 pub mod Header
 pub mod Level
 pub mod OneText
+pub mod Limits

@@ -6,8 +6,10 @@ use lib.Dec.{eqb}
 use Rattle.foundation.specs.Text.{key}
 use Rattle.klv.specs.declared.KLV.{KLV}
 
+-- one text (document 01, Values)
 unfoldable pub oneText : KLV → Bool
 oneText h = eqb (h .«data_type») (code "F") || eqb (h .«data_type») (code "c") && (eqb (h .repeat) 1 || eqb (h .size) 1)
 
+-- a TYPE of one text (document 01, Items and the walk)
 unfoldable pub typeText : KLV → Bool
 typeText h = eqb (h .key) (key "TYPE") && oneText h

@@ -12,11 +12,12 @@ use Rattle.line.specs.declared.Number.the-variants.{Is, NotOne}
 use Rattle.line.specs.declared.Decoded.{Decoded}
 use Rattle.line.specs.declared.Decoded.the-variants.{Bytes, NoRoom, NotHex}
 
--- how many bytes stand before the first that is b: all of them where none is
+-- one byte more stands before it, unless it is this one
 abbrev pub countOne : Bool → ℕ → ℕ
 countOne true n = 0
 countOne false n = suc n
 
+-- how many bytes stand before the first that is b: all of them where none is
 abbrev pub before : ℕ → List ℕ → ℕ
 before b [] = 0
 before b (c ∷ s) = countOne (eqb c b) (before b s)

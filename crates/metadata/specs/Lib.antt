@@ -1,3 +1,4 @@
 pub mod Spot
 pub mod Metadata
 pub mod Pass
+pub mod Quick

@@ -21,6 +21,7 @@ keyOf none = 0
 keyOf (last at h) = h .key
 keyOf (stopped why at) = 0
 
+-- the group of the items in a payload: named by its last item
 abbrev pub groupIn : List ℕ → Group
 groupIn payload = named (keyOf (lastItem (itemsOf payload) 0))
 
@@ -50,11 +51,12 @@ putBefore (new {h = h} i front put) from place = cond (leb from place) (8 + alig
 putBefore (behind {h = h} i put) from place = putBefore put (nextAt from h) place
 putBefore (inside {h = h} i m within put) from place = putBefore within (from + 8) place + putBefore put (nextAt from h) place
 
--- a row whose places are moved by so much each: its own and that of the TYPE in force, and nothing else
+-- the place of the TYPE in force, moved
 abbrev pub movedType : (ℕ → ℕ) → TypeInForce → TypeInForce
 movedType by noType = noType
 movedType by (typeAt at text) = typeAt (at + by at) text
 
+-- a row whose places are moved by so much each: its own and that of the TYPE in force, and nothing else
 unfoldable pub movedBy : (ℕ → ℕ) → Record → Record
 movedBy by r = record { place = r .place + by (r .place); type = movedType by (r .type); content = r .content }
 

@@ -18,10 +18,12 @@ abbrev pub elementAtPlace : Read → ℕ → Read
 elementAtPlace (read.Is e) place = read.Is e
 elementAtPlace (read.Refused number at) place = read.Refused number place
 
+-- a shape
 abbrev pub shapeAtPlace : Shaped → ℕ → Shaped
 shapeAtPlace (shaped.Is shape) place = shaped.Is shape
 shapeAtPlace (shaped.Refused number at) place = shaped.Refused number place
 
+-- columns
 abbrev pub columnsAtPlace : Columns → ℕ → Columns
 columnsAtPlace (columns.Are n) place = columns.Are n
 columnsAtPlace (columns.Refused number at) place = columns.Refused number place

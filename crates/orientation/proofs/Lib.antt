@@ -1,3 +1,4 @@
-pub mod Items
-pub mod Columns
+pub mod Matrices
+pub mod TextEnds
+pub mod Groups
 pub mod Cases

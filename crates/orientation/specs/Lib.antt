@@ -1,2 +1,3 @@
-pub mod Row
+pub mod Matrix
+pub mod Texts
 pub mod Group

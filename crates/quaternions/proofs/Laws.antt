@@ -20,7 +20,8 @@ use Rattle.tagged.specs.declared.Tagged.the-variants as tagged
 use Rattle.tagged.proofs.Laws.{item-there}
 use Rattle.tagged.proofs.Numbers.{s-held}
 use Rattle.quaternions.specs.Quaternion.{scaledBy}
-use Rattle.quaternions.specs.Scaled.{readAt, numberOf, numberAt, usual, scaleRead, scaleBy, scaleOf, ofFour, quaternionAt, quaternionBy, quaternionIn, quaternionOf}
+use Rattle.tagged.specs.Read.{readAt}
+use Rattle.quaternions.specs.Scaled.{numberOf, numberAt, usual, scaleRead, scaleBy, scaleOf, ofFour, quaternionAt, quaternionBy, quaternionIn, quaternionOf}
 use Rattle.quaternions.specs.Ready.{Halves}
 use Rattle.quaternions.specs.declared.Number.{Number}
 use Rattle.quaternions.specs.declared.Scale.{Scale}

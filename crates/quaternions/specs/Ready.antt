@@ -2,7 +2,7 @@
 use Prim.Native.Nat.{ℕ}
 use mathlib.Core.List.{List}
 use Rattle.tagged.specs.Number.{Sixteen, Held}
-use Rattle.quaternions.specs.Scaled.{readAt}
+use Rattle.tagged.specs.Read.{readAt}
 
 -- every element of the item at a place has 16 bits
 pub record Halves (s : List ℕ) (at : ℕ) : Type 0 where

@@ -8,12 +8,11 @@ use lib.IntN.{pos}
 use lib.Ieee.{Float, binary64, ofInt}
 use Rattle.foundation.specs.Text.{key}
 use Rattle.value.specs.Value.{isQuaternions}
-use Rattle.items.specs.At.{foundAt}
-use Rattle.values.specs.At.{elementOfFound}
 use Rattle.value.specs.declared.Read.{Read}
 use Rattle.value.specs.declared.Read.the-variants as read
 use Rattle.tagged.specs.Tagged.{taggedOf, oneNumber}
 use Rattle.tagged.specs.Number.{signedNumber}
+use Rattle.tagged.specs.Read.{readAt}
 use Rattle.tagged.specs.declared.Tagged.{Tagged}
 use Rattle.tagged.specs.declared.Tagged.the-variants as tagged
 use Rattle.quaternions.specs.Quaternion.{scaledBy}
@@ -24,15 +23,12 @@ use Rattle.quaternions.specs.declared.Scale.the-variants as scale
 use Rattle.quaternions.specs.declared.ScaledRow.{ScaledRow}
 use Rattle.quaternions.specs.declared.ScaledRow.the-variants.{Is, Nothing, Refused}
 
--- the element at a row and a column of the item at a place, for which no TYPE is in force
-abbrev pub readAt : List ℕ → ℕ → ℕ → ℕ → Read
-readAt s at row column = elementOfFound (foundAt s at 4294967295) at row column
-
 -- the number that an element is
 abbrev pub numberOf : Read → Number
 numberOf (read.Is e) = number.Is (signedNumber e)
 numberOf (read.Refused why place) = number.Refused why place
 
+-- the number at a row and a column of the item at a place
 unfoldable pub numberAt : List ℕ → ℕ → ℕ → ℕ → Number
 numberAt s at row column = numberOf (readAt s at row column)
 
@@ -42,6 +38,7 @@ numberAt s at row column = numberOf (readAt s at row column)
 abbrev pub usual : Scale
 usual = scale.By (ofInt binary64 (pos 32767))
 
+-- by the number that was read, or its refusal
 abbrev pub scaleRead : Number → Scale
 scaleRead (number.Is n) = scale.By (ofInt binary64 n)
 scaleRead (number.Refused why place) = scale.Refused why place
@@ -70,6 +67,7 @@ ofFour by (number.Refused why place) x y z = Refused why place
 unfoldable pub quaternionAt : List ℕ → ℕ → ℕ → Float → ScaledRow
 quaternionAt s at row by = ofFour by (numberAt s at row 0) (numberAt s at row 1) (numberAt s at row 2) (numberAt s at row 3)
 
+-- by a scale, or its refusal
 abbrev pub quaternionBy : List ℕ → ℕ → ℕ → Scale → ScaledRow
 quaternionBy s place row (scale.By by) = quaternionAt s place row by
 quaternionBy s place row (scale.Refused why at) = Refused why at

@@ -8,11 +8,9 @@ pub(crate) fn write_byte(b: u8) {
     write(&one);
 }
 
-// The last digits of a number.
+// A number in hex, in so many digits or more.
 pub(crate) fn write_hex(n: u64, count: usize) {
-    let mut digits = [0u8; 16];
-    let end = text::put_hex(&mut digits, 0, n, count);
-    write(first(&digits, end));
+    io::print_hex(libc::STDOUT_FILENO, n, count);
 }
 
 // An f32 by its bits, behind a mark.

@@ -1,6 +1,5 @@
-// Answers what the Rust oracle was asked of packets: cuts, readings, quaternions, stamps and averages (oracle/README.md has the protocol).
+// Answers what the Rust oracle was asked of packets: cuts, readings, quaternions and stamps (oracle/README.md has the protocol).
 // Standard input has at most 1,048,576 bytes; what stands behind them is not read.
-mod averages;
 mod motion;
 mod packets;
 mod questions;

@@ -1,5 +1,4 @@
 // The questions: which one a line is, and its words. The answer is written, without the end of its line.
-use crate::averages;
 use crate::motion;
 use crate::packets;
 use crate::writing::first;
@@ -7,20 +6,18 @@ use crate::writing::write;
 use line::Decoded;
 
 pub(crate) fn answer(question: &[u8]) {
-    if check::same(word(question, 0), b"average") {
-        averages::answer_average(question);
-    } else if line::pieces(question, b' ') == 3 {
+    if line::pieces(question, b' ') == 3 {
         answer_by(question, word(question, 2));
     } else {
         answer_by(question, word(question, 1));
     }
 }
 
-pub(crate) fn word(question: &[u8], index: usize) -> &[u8] {
+fn word(question: &[u8], index: usize) -> &[u8] {
     line::piece(question, b' ', index)
 }
 
-// The last word of every other question is in hex.
+// The last word of every question is in hex.
 fn answer_by(question: &[u8], hex: &[u8]) {
     let mut bytes = byte_buffer();
     match bytes_of(hex, &mut bytes) {
@@ -38,13 +35,13 @@ fn bytes_of(word: &[u8], bytes: &mut [u8]) -> Decoded {
     if word.len() == 0 {
         return Decoded::NotHex;
     }
-    if word.len() == 1 && word[0] == b'-' {
+    if check::same(word, b"-") {
         return Decoded::Bytes(0);
     }
     line::unhex(word, bytes)
 }
 
-pub(crate) fn write_unknown() {
+fn write_unknown() {
     write(b"unknown");
 }
 

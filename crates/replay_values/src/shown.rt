@@ -155,33 +155,36 @@ fn write_row(payload: &[u8], place: usize, type_place: usize, form: Form, row: u
         Form::Number => write_element(values::element(payload, place, type_place, row, 0)),
         Form::Numbers => {
             write_byte(b'[');
-            write_numbers(payload, place, type_place, row);
+            write_columns(payload, place, type_place, row, false);
             write_byte(b']');
         }
         Form::Text => {
             write_byte(b't');
-            write_text(payload, place, type_place, row);
+            write_columns(payload, place, type_place, row, true);
         }
     }
 }
 
-fn write_numbers(payload: &[u8], place: usize, type_place: usize, row: usize) {
+// The columns of a row: a text by its bytes in hex, numbers with what stands between two.
+fn write_columns(payload: &[u8], place: usize, type_place: usize, row: usize, is_text: bool) {
     let columns = columns_of(payload, place, type_place, row);
     let mut column: usize = 0;
     while column < columns {
-        write_between(column);
-        write_element(values::element(payload, place, type_place, row, column));
+        write_column(
+            values::element(payload, place, type_place, row, column),
+            column,
+            is_text,
+        );
         column += 1;
     }
 }
 
-// A text by its bytes, in hex.
-fn write_text(payload: &[u8], place: usize, type_place: usize, row: usize) {
-    let columns = columns_of(payload, place, type_place, row);
-    let mut column: usize = 0;
-    while column < columns {
-        write_character(values::element(payload, place, type_place, row, column));
-        column += 1;
+fn write_column(read: Read, column: usize, is_text: bool) {
+    if is_text {
+        write_character(read);
+    } else {
+        write_between(column);
+        write_element(read);
     }
 }
 

@@ -5,6 +5,7 @@ use mathlib.Core.Bool.{Bool, cond, _&&_}
 use mathlib.Core.List.{List}
 use lib.Dec.{eqb, ltb}
 use lib.ListN.{length}
+use Rattle.klv.specs.Limits.{mostBytes}
 use Rattle.klv.specs.Item.{dataLen}
 use Rattle.klv.specs.Header.{headerAt}
 use Rattle.klv.specs.declared.KLV.{KLV}
@@ -36,7 +37,7 @@ itemOf s rows (row.Refused number place) = Refused number place
 
 -- THE ITEM of a group and a tag; 1 comes first: "payload over the limit (place 0)"
 unfoldable pub taggedOf : List ℕ → List ℕ → ℕ → ℕ → ℕ → ℕ → ℕ → Tagged
-taggedOf s rows count groupKind groupKey tag key = cond (ltb 1048576 (length s)) (Refused 1 0) (itemOf s rows (lookupOf groupKind groupKey tag key rows count))
+taggedOf s rows count groupKind groupKey tag key = cond (ltb mostBytes (length s)) (Refused 1 0) (itemOf s rows (lookupOf groupKind groupKey tag key rows count))
 
 -- ONE NUMBER of a letter: "With n = size / width rounded down: repeat 1 and n 1 is single" (document 01, Values)
 unfoldable pub oneNumber : KLV → ℕ → Bool

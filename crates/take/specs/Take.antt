@@ -10,6 +10,8 @@ use Rattle.foundation.specs.Text.{characters}
 use Rattle.reading.specs.Refusal.{tooLong}
 use Rattle.reading.specs.Walk.{Outcome, accepted, refused, readingOf, roomOf}
 use Rattle.reading.specs.Answer.{lent}
+use Rattle.metadata.specs.declared.Metadata.{Metadata}
+use Rattle.metadata.specs.declared.Metadata.the-variants.{Rows, Refused}
 use Rattle.text.specs.Numerals.{decimal}
 use Rattle.listing.specs.Listing.{listing}
 use Rattle.listing.specs.Lines.{laidLines, behindLines}
@@ -42,6 +44,11 @@ packet false number place payload room (refused why at) = packetLine number plac
 abbrev pub longPacket : Bool → ℕ → ℕ → ℕ → List (List ℕ)
 longPacket true number place bytes = []
 longPacket false number place bytes = packetLine number place bytes ++ (listing (refused tooLong 0) ++ (characters "front " ∷ listing (accepted [] 0)))
+
+-- whether a packet is left out: a refused one, "of the archivist's whole take"
+abbrev pub leftOut : Bool → Metadata → Bool
+leftOut whole (Rows rows headers) = false
+leftOut whole (Refused number place) = whole
 
 -- whether a packet counts as read
 abbrev pub isAccepted : Outcome → Bool

@@ -6,7 +6,7 @@ ghost use mathlib.Core.Bool.{false};
 ghost use lib.ListN.{length, take};
 ghost use Rattle.reading.specs.Walk.{readingOf, roomOf};
 ghost use Rattle.text.specs.Numerals.{decimal};
-ghost use Rattle.take.specs.Take.{countsLine, packetLine, totalsLine, longPacket, LaysAll, Fronts, Takes};
+ghost use Rattle.take.specs.Take.{countsLine, packetLine, totalsLine, longPacket, leftOut, LaysAll, Fronts, Takes};
 
 // A packet that was laid: the place behind it, and whether it was accepted.
 #[repr(C)]
@@ -28,37 +28,45 @@ pub fn put_packet(
     ensures { λ r. ⌜ Takes whole number place (now (payload .entry)) (readingOf false (now (payload .entry)) (roomOf (length (now (rows .entry))))) (now (rows .entry)) (now (out .entry)) at (r .end) (r .accepted) (now (rows .exit)) (now (out .exit)) ⌝ }
 {
     let answer = metadata::parse_metadata(payload, false, rows);
+    if left_out(whole, answer) {
+        return Taken {
+            end: at,
+            accepted: false,
+        };
+    }
+    let line = put_packet_line(out, at, number, place, payload.len() as u64);
+    let first = listing::put_answer(out, line, answer);
     match answer {
         Metadata::Rows {
             rows: count,
             headers: _,
-        } => {
-            let line = put_packet_line(out, at, number, place, payload.len() as u64);
-            let first = listing::put_answer(out, line, answer);
-            let end = listing::put_rows(out, first, rows, count);
-            Taken {
-                end,
-                accepted: true,
-            }
-        }
+        } => Taken {
+            end: listing::put_rows(out, first, rows, count),
+            accepted: true,
+        },
         Metadata::Refused {
             number: _,
             place: stop,
-        } => {
-            if whole {
-                return Taken {
-                    end: at,
-                    accepted: false,
-                };
-            }
-            let line = put_packet_line(out, at, number, place, payload.len() as u64);
-            let first = listing::put_answer(out, line, answer);
-            let end = put_front(payload, stop, rows, out, first);
-            Taken {
-                end,
-                accepted: false,
-            }
-        }
+        } => Taken {
+            end: put_front(payload, stop, rows, out, first),
+            accepted: false,
+        },
+    }
+}
+
+// Whether a packet is left out: a refused one, of the whole take.
+fn left_out(whole: bool, answer: Metadata) -> bool
+    ensures { λ r. ⌜ r ≡ leftOut whole answer ⌝ }
+{
+    match answer {
+        Metadata::Rows {
+            rows: _,
+            headers: _,
+        } => false,
+        Metadata::Refused {
+            number: _,
+            place: _,
+        } => whole,
     }
 }
 

@@ -22,6 +22,7 @@ abbrev pub tenthFirst : Bool → (ℕ → List ℕ) → ℕ → List ℕ
 tenthFirst true more n = getD digits n 0 ∷ []
 tenthFirst false more n = more (n / 10) ++ getD digits (n % 10) 0 ∷ []
 
+-- by whether it is below ten
 abbrev pub decimalStep : (ℕ → List ℕ) → ℕ → List ℕ
 decimalStep more n = tenthFirst (ltb n 10) more n
 

@@ -11,6 +11,7 @@ pub data Scalar (c : ℕ) : Type 0 where
   below : c ≤ 0xD7FF → Scalar c
   above : 0xE000 ≤ c → c ≤ 0x10FFFF → Scalar c
 
+-- a list of them
 pub data Scalars : List ℕ → Type 0 where
   none : Scalars []
   more : {c : ℕ} {cs : List ℕ} → Scalar c → Scalars cs → Scalars (c ∷ cs)
@@ -27,6 +28,7 @@ encode c =
     (cond (leb c 0xFFFF) ((0xE0 + c / 4096) ∷ trailing (c / 64) ∷ trailing c ∷ [])
     ((0xF0 + c / 262144) ∷ trailing (c / 4096) ∷ trailing (c / 64) ∷ trailing c ∷ [])))
 
+-- the bytes of a list
 abbrev pub encoded : List ℕ → List ℕ
 encoded [] = []
 encoded (c ∷ cs) = encode c ++ encoded cs

@@ -10,6 +10,7 @@ infix 80 _to_
 pub data Range : Type 0 where
   _to_ : ℕ → ℕ → Range
 
+-- a byte lies in a range
 abbrev pub within : Range → ℕ → Bool
 within (first to last) b = leb first b && leb b last
 

@@ -43,6 +43,8 @@ use Rattle.answers.proofs.of_date.Kinds as of-date-kinds
 use Rattle.answers.proofs.of_date.Reads as of-date-reads
 use Rattle.answers.proofs.of_columns.Kinds as of-columns-kinds
 use Rattle.answers.proofs.of_columns.Reads as of-columns-reads
+use Rattle.answers.proofs.of_elements.Kinds as of-elements-kinds
+use Rattle.answers.proofs.of_elements.Reads as of-elements-reads
 use Rattle.answers.proofs.of_found.Kinds as of-found-kinds
 use Rattle.answers.proofs.of_found.Reads as of-found-reads
 use Rattle.answers.proofs.of_stamp.Kinds as of-stamp-kinds
@@ -53,8 +55,8 @@ use Rattle.answers.proofs.of_number.Kinds as of-number-kinds
 use Rattle.answers.proofs.of_number.Reads as of-number-reads
 use Rattle.answers.proofs.of_decoded.Kinds as of-decoded-kinds
 use Rattle.answers.proofs.of_decoded.Reads as of-decoded-reads
-use Rattle.answers.proofs.of_average.Kinds as of-average-kinds
-use Rattle.answers.proofs.of_average.Reads as of-average-reads
+use Rattle.value_answers.proofs.of_average.Kinds as of-average-kinds
+use Rattle.value_answers.proofs.of_average.Reads as of-average-reads
 use Rattle.answers.proofs.of_header.Kinds as of-header-kinds
 use Rattle.answers.proofs.of_header.Reads as of-header-reads
 use Rattle.answers.proofs.of_last_item.Kinds as of-last-item-kinds
@@ -65,28 +67,28 @@ use Rattle.answers.proofs.of_part.Kinds as of-part-kinds
 use Rattle.answers.proofs.of_part.Reads as of-part-reads
 use Rattle.answers.proofs.of_tagged.Kinds as of-tagged-kinds
 use Rattle.answers.proofs.of_tagged.Reads as of-tagged-reads
-use Rattle.answers.proofs.of_element.Kinds as of-element-kinds
-use Rattle.answers.proofs.of_element.Reads as of-element-reads
-use Rattle.answers.proofs.of_read.Kinds as of-read-kinds
-use Rattle.answers.proofs.of_read.Reads as of-read-reads
-use Rattle.answers.proofs.of_kind.Kinds as of-kind-kinds
-use Rattle.answers.proofs.of_kind.Reads as of-kind-reads
-use Rattle.answers.proofs.of_shaped.Kinds as of-shaped-kinds
-use Rattle.answers.proofs.of_shaped.Reads as of-shaped-reads
+use Rattle.value_answers.proofs.of_element.Kinds as of-element-kinds
+use Rattle.value_answers.proofs.of_element.Reads as of-element-reads
+use Rattle.value_answers.proofs.of_read.Kinds as of-read-kinds
+use Rattle.value_answers.proofs.of_read.Reads as of-read-reads
+use Rattle.value_answers.proofs.of_kind.Kinds as of-kind-kinds
+use Rattle.value_answers.proofs.of_kind.Reads as of-kind-reads
+use Rattle.value_answers.proofs.of_shaped.Kinds as of-shaped-kinds
+use Rattle.value_answers.proofs.of_shaped.Reads as of-shaped-reads
 use Rattle.answers.proofs.of_row_at.Kinds as of-row-at-kinds
 use Rattle.answers.proofs.of_row_at.Reads as of-row-at-reads
 use Rattle.answers.proofs.of_metadata.Kinds as of-metadata-kinds
 use Rattle.answers.proofs.of_metadata.Reads as of-metadata-reads
 use Rattle.answers.proofs.to_metadata.Kinds as to-metadata-kinds
 use Rattle.answers.proofs.to_metadata.Reads as to-metadata-reads
-use Rattle.answers.proofs.of_orientation.Kinds as of-orientation-kinds
-use Rattle.answers.proofs.of_orientation.Reads as of-orientation-reads
-use Rattle.answers.proofs.of_oriented.Kinds as of-oriented-kinds
-use Rattle.answers.proofs.of_oriented.Reads as of-oriented-reads
-use Rattle.answers.proofs.of_orientations.Kinds as of-orientations-kinds
-use Rattle.answers.proofs.of_orientations.Reads as of-orientations-reads
-use Rattle.answers.proofs.of_scaled_row.Kinds as of-scaled-row-kinds
-use Rattle.answers.proofs.of_scaled_row.Reads as of-scaled-row-reads
+use Rattle.value_answers.proofs.of_orientation.Kinds as of-orientation-kinds
+use Rattle.value_answers.proofs.of_orientation.Reads as of-orientation-reads
+use Rattle.value_answers.proofs.of_oriented.Kinds as of-oriented-kinds
+use Rattle.value_answers.proofs.of_oriented.Reads as of-oriented-reads
+use Rattle.value_answers.proofs.of_orientations.Kinds as of-orientations-kinds
+use Rattle.value_answers.proofs.of_orientations.Reads as of-orientations-reads
+use Rattle.value_answers.proofs.of_scaled_row.Kinds as of-scaled-row-kinds
+use Rattle.value_answers.proofs.of_scaled_row.Reads as of-scaled-row-reads
 use Rattle.answers.proofs.of_next_packet.Kinds as of-next-packet-kinds
 use Rattle.answers.proofs.of_next_packet.Reads as of-next-packet-reads
 use Rattle.answers.proofs.of_in_window.Kinds as of-in-window-kinds
@@ -95,10 +97,10 @@ use Rattle.answers.proofs.of_next_metadata.Kinds as of-next-metadata-kinds
 use Rattle.answers.proofs.of_next_metadata.Reads as of-next-metadata-reads
 use Rattle.answers.proofs.of_metadata_in_window.Kinds as of-metadata-in-window-kinds
 use Rattle.answers.proofs.of_metadata_in_window.Reads as of-metadata-in-window-reads
-use Rattle.answers.proofs.of_matrix.Kinds as of-matrix-kinds
-use Rattle.answers.proofs.of_matrix.Reads as of-matrix-reads
-use Rattle.answers.proofs.to_matrix.Kinds as to-matrix-kinds
-use Rattle.answers.proofs.to_matrix.Reads as to-matrix-reads
+use Rattle.value_answers.proofs.of_matrix.Kinds as of-matrix-kinds
+use Rattle.value_answers.proofs.of_matrix.Reads as of-matrix-reads
+use Rattle.value_answers.proofs.to_matrix.Kinds as to-matrix-kinds
+use Rattle.value_answers.proofs.to_matrix.Reads as to-matrix-reads
 use Rattle.keys.proofs.tag_id.Kinds as tag-id-kinds
 use Rattle.keys.proofs.tag_id.Reads as tag-id-reads
 use Rattle.keys.proofs.group_from_key.Kinds as group-from-key-kinds
@@ -181,6 +183,8 @@ use Rattle.values.proofs.shape_at.Kinds as shape-at-kinds
 use Rattle.values.proofs.shape_at.Reads as shape-at-reads
 use Rattle.values.proofs.columns_at.Kinds as columns-at-kinds
 use Rattle.values.proofs.columns_at.Reads as columns-at-reads
+use Rattle.all_elements.proofs.elements_at.Kinds as elements-at-kinds
+use Rattle.all_elements.proofs.elements_at.Reads as elements-at-reads
 use Rattle.view.proofs.bytes_at.Kinds as bytes-at-kinds
 use Rattle.view.proofs.bytes_at.Reads as bytes-at-reads
 use Rattle.view.proofs.text_at.Kinds as text-at-kinds
@@ -376,6 +380,9 @@ shape-at κs a x y s t p q = p ∙ sym q
 pub columns-at : OneResult 1 columns-at-kinds.ps columns-at-kinds.r columns-at-reads.Learnt
 columns-at κs a x y s t p q = p ∙ sym q
 
+pub elements-at : OneAnswer 2 elements-at-kinds.ps elements-at-kinds.r elements-at-reads.Learnt (λ κs s. now (s .1 .1 .1 .0))
+elements-at κs a x y s t p q = (p .is ∙ sym (q .is), p .numbers ∙ sym (q .numbers))
+
 pub room : OneResult 0 room-kinds.ps room-kinds.r room-reads.Learnt
 room κs a x y s t p q = p ∙ sym q
 
@@ -517,6 +524,9 @@ of-date κs a x y s t p q = p ∙ sym q
 
 pub of-columns : OneResult 0 of-columns-kinds.ps of-columns-kinds.r of-columns-reads.Learnt
 of-columns κs a x y s t p q = p ∙ sym q
+
+pub of-elements : OneResult 0 of-elements-kinds.ps of-elements-kinds.r of-elements-reads.Learnt
+of-elements κs a x y s t p q = p ∙ sym q
 
 pub of-found : OneResult 0 of-found-kinds.ps of-found-kinds.r of-found-reads.Learnt
 of-found κs a x y s t p q = p ∙ sym q

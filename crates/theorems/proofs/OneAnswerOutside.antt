@@ -24,6 +24,8 @@ use Rattle.gpmf.proofs.value_face.gpmf_shape_at.Kinds as gpmf-shape-at-kinds
 use Rattle.gpmf.proofs.value_face.gpmf_shape_at.Reads as gpmf-shape-at-reads
 use Rattle.gpmf.proofs.value_face.gpmf_columns_at.Kinds as gpmf-columns-at-kinds
 use Rattle.gpmf.proofs.value_face.gpmf_columns_at.Reads as gpmf-columns-at-reads
+use Rattle.gpmf.proofs.value_face.gpmf_elements_at.Kinds as gpmf-elements-at-kinds
+use Rattle.gpmf.proofs.value_face.gpmf_elements_at.Reads as gpmf-elements-at-reads
 use Rattle.gpmf.proofs.value_face.gpmf_klv_at.Kinds as gpmf-klv-at-kinds
 use Rattle.gpmf.proofs.value_face.gpmf_klv_at.Reads as gpmf-klv-at-reads
 use Rattle.gpmf.proofs.value_face.gpmf_bytes_at.Kinds as gpmf-bytes-at-kinds
@@ -172,6 +174,9 @@ gpmf-shape-at κs a x y s t p q = p ∙ sym q
 
 pub gpmf-columns-at : OneResult 1 gpmf-columns-at-kinds.ps gpmf-columns-at-kinds.r gpmf-columns-at-reads.Learnt
 gpmf-columns-at κs a x y s t p q = p ∙ sym q
+
+pub gpmf-elements-at : OneAnswer 2 gpmf-elements-at-kinds.ps gpmf-elements-at-kinds.r gpmf-elements-at-reads.Learnt (λ κs s. now (s .1 .1 .1 .0))
+gpmf-elements-at κs a x y s t p q = (p .is ∙ sym (q .is), p .numbers ∙ sym (q .numbers))
 
 pub gpmf-klv-at : OneResult 1 gpmf-klv-at-kinds.ps gpmf-klv-at-kinds.r gpmf-klv-at-reads.Learnt
 gpmf-klv-at κs a x y s t p q = p ∙ sym q

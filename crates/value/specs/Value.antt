@@ -50,6 +50,7 @@ wanting bytes payload v = cond (leb bytes (length payload)) (readable v) (refuse
 abbrev pub placed : Grid → List ℕ → ℕ → ℕ → Element
 placed g payload row column = elementAt payload ((row * g .columns + column) * widthOf (g .letter)) (g .letter)
 
+-- rows and columns of such elements
 abbrev pub gridded : Grid → List ℕ → Outcome
 gridded g payload =
     wanting (g .rows * g .columns * widthOf (g .letter)) payload (record { kind = g .kind; rows = g .rows; columns = λ row. g .columns; element = placed g payload })
@@ -69,6 +70,7 @@ numbers h =
 unfoldable pub isQuaternions : KLV → Bool
 isQuaternions h = eqb (h .«data_type») (code "s") && (eqb (h .key) (key "CORI") || eqb (h .key) (key "IORI"))
 
+-- w x y z are the columns
 abbrev pub quaternions : KLV → Grid
 quaternions h = record { kind = kind.Quaternions; rows = h .repeat; columns = 4; letter = code "s" }
 
@@ -90,6 +92,7 @@ unknown = record { kind = kind.Unknown; rows = 0; columns = 0; letter = 0 }
 abbrev pub textOf : KLV → List ℕ → ℕ → List ℕ
 textOf h payload row = upToZero (take (h .size) (drop (row * h .size) payload))
 
+-- the room of several texts, a row each
 abbrev pub room : KLV → Grid
 room h = record { kind = kind.Texts; rows = h .repeat; columns = h .size; letter = code "B" }
 
@@ -102,6 +105,7 @@ texts h payload =
 
 -- ---- a date: milliseconds since 1970
 
+-- of a date as it was read: one element
 abbrev pub dated : Date → Outcome
 dated (Milliseconds n) = readable (record { kind = kind.DateTime; rows = 1; columns = λ row. 1; element = λ row column. Unsigned n })
 dated TooFew = refused (Date.refusal TooFew)
@@ -152,6 +156,7 @@ planOf h payload =
     (cond (not (eqb (widthOf (h .«data_type»)) 0)) (plan.Even (numbers h))
     (cond (oneText h) (plan.Even (text payload)) (letterPlan (h .«data_type»))))
 
+-- by what is to be read
 abbrev pub valueBy : Plan → KLV → List ℕ → List ℕ → Outcome
 valueBy (plan.Even g) h payload type = gridded g payload
 valueBy plan.Texts h payload type = texts h payload

@@ -13,18 +13,22 @@ use Rattle.value.specs.Answer.{elementIn, shapeIn, columnsIn}
 use Rattle.values.specs.declared.Headed.{Headed}
 use Rattle.values.specs.declared.Headed.the-variants as headed
 
+-- the header of what was found
 abbrev pub klvOfFound : Found → Headed
 klvOfFound (stopped number place) = headed.Refused number place
 klvOfFound (found h payload type) = headed.Is h
 
+-- the element at a row and a column of its value
 abbrev pub elementOfFound : Found → ℕ → ℕ → ℕ → Read
 elementOfFound (stopped number place) at row column = read.Refused number place
 elementOfFound (found h payload type) at row column = elementIn at (valueOf h payload type) row column
 
+-- the shape of its value
 abbrev pub shapeOfFound : Found → ℕ → Shaped
 shapeOfFound (stopped number place) at = shaped.Refused number place
 shapeOfFound (found h payload type) at = shapeIn at (valueOf h payload type)
 
+-- the columns of a row of its value
 abbrev pub columnsOfFound : Found → ℕ → ℕ → Columns
 columnsOfFound (stopped number place) at row = columns.Refused number place
 columnsOfFound (found h payload type) at row = columnsIn at (valueOf h payload type) row

@@ -51,6 +51,7 @@ abbrev pub textIn : ℕ → KLV → List ℕ → Outcome → ℕ → Part
 textIn at h payload (refused number) row = Refused number at
 textIn at h payload (readable v) row = cond (ltb row (v .rows)) (partOf (rowText h payload row) at) (Refused 13 at)
 
+-- of what was found at a place
 abbrev pub textOfFound : Found → ℕ → ℕ → Part
 textOfFound (stopped number place) at row = Refused number place
 textOfFound (found h payload type) at row = textIn at h payload (valueOf h payload type) row

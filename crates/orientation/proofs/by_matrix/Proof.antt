@@ -1,57 +1,63 @@
--- `by_matrix` meets its contract, by the variant that was met and the form of its kind. Assumes nothing.
-use mathlib.Core.Path.{sym, _∙_}
+-- `by_matrix` meets its contract, by the tests of its header. Assumes nothing.
+use Rattle.orientation.proofs.Matrices.{not-single, not-nested, by-nine, other-count}
+use Rattle.orientation.specs.Matrix.{firstRow}
+use mathlib.Core.Path.{sym}
 use borrow.Author.Needs.{needs}
 use Rattle.orientation.proofs.by_matrix.Statement.{statement}
 use Rattle.orientation.proofs.by_matrix.Tie as tie
 
-shape-at-requires : tie.Need-shape-at-requires
-shape-at-requires c κs = search needs
+columns-of-requires : tie.Need-columns-of-requires
+columns-of-requires c κs = search needs
 
-enum-known-number : tie.Need-enum-known-number
-enum-known-number c = search needs
+is-single-requires : tie.Need-is-single-requires
+is-single-requires c κs = search needs
 
-enum-known-shape : tie.Need-enum-known-shape
-enum-known-shape c = search needs
+is-nested-requires : tie.Need-is-nested-requires
+is-nested-requires c κs = search needs
 
-form-of-requires : tie.Need-form-of-requires
-form-of-requires c κs = search needs
+nine-requires : tie.Need-nine-requires
+nine-requires c κs = search needs
 
-enum-told : tie.Need-enum-told
-enum-told c = search needs
+slice-aggregate-mtrx-to-orientation : tie.Need-slice-aggregate-mtrx-to-orientation
+slice-aggregate-mtrx-to-orientation c = search needs
 
-enum-told-2 : tie.Need-enum-told-2
-enum-told-2 c = search needs
+mtrx-to-orientation-requires : tie.Need-mtrx-to-orientation-requires
+mtrx-to-orientation-requires c κs = search needs
 
-by-rows-requires : tie.Need-by-rows-requires
-by-rows-requires c κs = search needs
-
-enum-told-3 : tie.Need-enum-told-3
-enum-told-3 c = search needs
+told-by-requires : tie.Need-told-by-requires
+told-by-requires c κs = search needs
 
 returns : tie.Need-returns
-returns c = simp (sym (c .before .before .before .shape-at .ensures) ∙ c .before .number .given .1)
+returns c =
+    let a = c .before .before .before .before .before .before .before .before .before .before .before .args in
+    by-nine (a .klv) (firstRow (a .s .now) (a .at)) (c .before .before .before .before .before .before .before .before .before .columns-of .ensures) (c .before .before .before .before .before .before .before .before .is-single .ensures) (c .before .before .before .before .before .before .is-nested .ensures) (c .before .before .before .before .before .before .before .if1 .taken) (c .before .before .before .before .before .if2 .taken) _ _ _ (c .before .before .before .before .if3 .taken) (c .before .before .before .nine .ensures) (c .before .mtrx-to-orientation .ensures) (c .told-by .ensures)
 
 returns-2 : tie.Need-returns-2
-returns-2 c = simp (sym (c .before .before .before .before .before .before .shape-at .ensures) ∙ c .before .before .before .before .shape .given .1, sym (c .before .before .form-of .ensures) ∙ c .enum-told .given .1)
+returns-2 c =
+    let a = c .before .before .before .before .before .before .before .args in
+    sym (other-count (a .klv) (firstRow (a .s .now) (a .at)) (c .before .before .before .before .before .columns-of .ensures) (c .before .before .before .before .is-single .ensures) (c .before .before .is-nested .ensures) (c .before .before .before .if1 .taken) (c .before .if2 .taken) (c .if3 .left))
 
 returns-3 : tie.Need-returns-3
-returns-3 c = simp (sym (c .before .before .before .before .before .before .before .shape-at .ensures) ∙ c .before .before .before .before .before .shape .given .1, sym (c .before .before .before .form-of .ensures) ∙ c .before .enum-told2 .given .1, c .by-rows .ensures)
+returns-3 c =
+    let a = c .before .before .before .before .before .before .args in
+    sym (not-nested (a .klv) (firstRow (a .s .now) (a .at)) (c .before .before .before .before .columns-of .ensures) (c .before .before .before .is-single .ensures) (c .before .is-nested .ensures) (c .before .before .if1 .taken) (c .if2 .left))
 
 returns-4 : tie.Need-returns-4
-returns-4 c = simp (sym (c .before .before .before .before .before .before .shape-at .ensures) ∙ c .before .before .before .before .shape .given .1, sym (c .before .before .form-of .ensures) ∙ c .enum-told3 .given .1)
+returns-4 c =
+    let a = c .before .before .before .before .args in
+    sym (not-single (a .klv) (firstRow (a .s .now) (a .at)) (c .before .before .columns-of .ensures) (c .before .is-single .ensures) (c .if1 .left))
 
 pub by-matrix-spec : {M : Type 1} → statement M
 by-matrix-spec =
     tie.close
     (tie.spec
-    shape-at-requires
-    enum-known-number
-    enum-known-shape
-    form-of-requires
-    enum-told
-    enum-told-2
-    by-rows-requires
-    enum-told-3
+    columns-of-requires
+    is-single-requires
+    is-nested-requires
+    nine-requires
+    slice-aggregate-mtrx-to-orientation
+    mtrx-to-orientation-requires
+    told-by-requires
     returns
     returns-2
     returns-3

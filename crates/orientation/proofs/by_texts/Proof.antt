@@ -1,75 +1,85 @@
--- `by_texts` meets its contract, by what each value is. Assumes nothing.
-use Rattle.orientation.specs.Row.{textBy}
-use mathlib.Core.Path.{ap, sym, _∙_}
+-- `by_texts` meets its contract, by whether each item is one text. Assumes nothing.
+use Rattle.orientation.proofs.TextEnds.{no-orin, no-orio, both-texts}
+use mathlib.Core.Path.{sym}
 use borrow.Author.Needs.{needs}
 use Rattle.orientation.proofs.by_texts.Statement.{statement}
 use Rattle.orientation.proofs.by_texts.Tie as tie
 
-shape-at-requires : tie.Need-shape-at-requires
-shape-at-requires c κs = search needs
+is-one-text-requires : tie.Need-is-one-text-requires
+is-one-text-requires c κs = search needs
 
-text-by-requires : tie.Need-text-by-requires
-text-by-requires c κs = search needs
+is-one-text-requires-2 : tie.Need-is-one-text-requires-2
+is-one-text-requires-2 c κs = search needs
 
-enum-known-number : tie.Need-enum-known-number
-enum-known-number c = search needs
+text-end-requires : tie.Need-text-end-requires
+text-end-requires c κs = search needs
 
-enum-told : tie.Need-enum-told
-enum-told c = search needs
+text-end-requires-2 : tie.Need-text-end-requires-2
+text-end-requires-2 c κs = search needs
 
-enum-known-n : tie.Need-enum-known-n
-enum-known-n c = search needs
+add-i-start : tie.Need-add-i-start
+add-i-start c = search needs
 
-shape-at-requires-2 : tie.Need-shape-at-requires-2
-shape-at-requires-2 c κs = search needs
+add-o-start : tie.Need-add-o-start
+add-o-start c = search needs
 
-text-by-requires-2 : tie.Need-text-by-requires-2
-text-by-requires-2 c κs = search needs
+sub-orientations-of : tie.Need-sub-orientations-of
+sub-orientations-of c = search needs
 
-enum-known-number-2 : tie.Need-enum-known-number-2
-enum-known-number-2 c = search needs
+part-orientations-of-start : tie.Need-part-orientations-of-start
+part-orientations-of-start c = search needs
 
-enum-told-2 : tie.Need-enum-told-2
-enum-told-2 c = search needs
+part-orientations-of-end : tie.Need-part-orientations-of-end
+part-orientations-of-end c = search needs
 
-enum-known-m : tie.Need-enum-known-m
-enum-known-m c = search needs
+sub-orientations-of-2 : tie.Need-sub-orientations-of-2
+sub-orientations-of-2 c = search needs
 
-by-characters-requires : tie.Need-by-characters-requires
-by-characters-requires c κs = search needs
+part-orientations-of-start-2 : tie.Need-part-orientations-of-start-2
+part-orientations-of-start-2 c = search needs
+
+part-orientations-of-end-2 : tie.Need-part-orientations-of-end-2
+part-orientations-of-end-2 c = search needs
+
+orientations-of-requires : tie.Need-orientations-of-requires
+orientations-of-requires c κs = search needs
+
+by-orientations-requires : tie.Need-by-orientations-requires
+by-orientations-requires c κs = search needs
 
 returns : tie.Need-returns
-returns c = simp (sym (c .before .before .before .text-by .ensures ∙ ap textBy (c .before .before .before .before .shape-at .ensures)) ∙ c .before .number .given .1)
+returns c =
+    let a = c .before .before .before .before .before .before .before .before .before .before .before .args in
+    both-texts (a .s .now) (a .i) (a .orin) (a .o) (a .orio) (c .before .before .before .before .before .before .before .before .before .is-one-text .ensures) (c .before .before .before .before .before .before .before .before .if1 .taken) (c .before .before .before .before .before .before .before .is-one-text2 .ensures) (c .before .before .before .before .before .before .if2 .taken) _ _ (c .before .before .before .before .before .text-end .ensures) (c .before .before .before .before .text-end2 .ensures) _ _ (c .before .orientations-of .ensures) (c .by-orientations .ensures)
 
 returns-2 : tie.Need-returns-2
-returns-2 c = simp (sym (c .before .before .text-by .ensures ∙ ap textBy (c .before .before .before .shape-at .ensures)) ∙ c .enum-told .given .1)
+returns-2 c =
+    let a = c .before .before .before .before .before .args in
+    sym (no-orio (a .s .now) (a .i) (a .orin) (a .o) (a .orio) (c .before .before .before .is-one-text .ensures) (c .before .before .if1 .taken) (c .before .is-one-text2 .ensures) (c .if2 .left))
 
 returns-3 : tie.Need-returns-3
-returns-3 c = simp (sym (c .before .before .before .before .before .before .before .before .text-by .ensures ∙ ap textBy (c .before .before .before .before .before .before .before .before .before .shape-at .ensures)) ∙ c .before .before .before .before .before .before .n .given .1, sym (c .before .before .before .text-by2 .ensures ∙ ap textBy (c .before .before .before .before .shape-at2 .ensures)) ∙ c .before .number2 .given .1)
-
-returns-4 : tie.Need-returns-4
-returns-4 c = simp (sym (c .before .before .before .before .before .before .before .text-by .ensures ∙ ap textBy (c .before .before .before .before .before .before .before .before .shape-at .ensures)) ∙ c .before .before .before .before .before .n .given .1, sym (c .before .before .text-by2 .ensures ∙ ap textBy (c .before .before .before .shape-at2 .ensures)) ∙ c .enum-told2 .given .1)
-
-returns-5 : tie.Need-returns-5
-returns-5 c = simp (sym (c .before .before .before .before .before .before .before .before .before .text-by .ensures ∙ ap textBy (c .before .before .before .before .before .before .before .before .before .before .shape-at .ensures)) ∙ c .before .before .before .before .before .before .before .n .given .1, sym (c .before .before .before .before .text-by2 .ensures ∙ ap textBy (c .before .before .before .before .before .shape-at2 .ensures)) ∙ c .before .before .m .given .1, c .by-characters .ensures)
+returns-3 c =
+    let a = c .before .before .before .args in
+    sym (no-orin (a .s .now) (a .i) (a .orin) (a .o) (a .orio) (c .before .is-one-text .ensures) (c .if1 .left))
 
 pub by-texts-spec : {M : Type 1} → statement M
 by-texts-spec =
     tie.close
     (tie.spec
-    shape-at-requires
-    text-by-requires
-    enum-known-number
-    enum-told
-    enum-known-n
-    shape-at-requires-2
-    text-by-requires-2
-    enum-known-number-2
-    enum-told-2
-    enum-known-m
-    by-characters-requires
+    is-one-text-requires
+    is-one-text-requires-2
+    text-end-requires
+    text-end-requires-2
+    add-i-start
+    add-o-start
+    sub-orientations-of
+    part-orientations-of-start
+    part-orientations-of-end
+    sub-orientations-of-2
+    part-orientations-of-start-2
+    part-orientations-of-end-2
+    orientations-of-requires
+    by-orientations-requires
     returns
     returns-2
-    returns-3
-    returns-4
-    returns-5)
+    returns-3)

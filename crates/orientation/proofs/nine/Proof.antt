@@ -1,5 +1,5 @@
 -- `nine` meets its contract, a column at a time. Assumes nothing.
-use Rattle.orientation.specs.Row.{firstOf}
+use Rattle.orientation.specs.Matrix.{singlesOf}
 use borrow.Author.Needs.{needs}
 use Rattle.orientation.proofs.nine.Statement.{statement}
 use Rattle.orientation.proofs.nine.Tie as tie
@@ -32,7 +32,7 @@ number-requires-9 : tie.Need-number-requires-9
 number-requires-9 c κs = search needs
 
 returns : tie.Need-returns
-unfolding firstOf
+unfolding singlesOf
 returns c = simp (c .before .before .before .before .before .before .before .before .number .ensures, c .before .before .before .before .before .before .before .number2 .ensures, c .before .before .before .before .before .before .number3 .ensures, c .before .before .before .before .before .number4 .ensures, c .before .before .before .before .number5 .ensures, c .before .before .before .number6 .ensures, c .before .before .number7 .ensures, c .before .number8 .ensures, c .number9 .ensures)
 
 pub nine-spec : {M : Type 1} → statement M

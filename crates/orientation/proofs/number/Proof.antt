@@ -1,5 +1,5 @@
 -- `number` meets its contract: the f32 of the element that is read. Assumes nothing.
-use Rattle.orientation.specs.Row.{singleOf}
+use Rattle.orientation.specs.Matrix.{singleOf}
 use mathlib.Core.Path.{ap, _∙_}
 use borrow.Author.Needs.{needs}
 use Rattle.orientation.proofs.number.Statement.{statement}

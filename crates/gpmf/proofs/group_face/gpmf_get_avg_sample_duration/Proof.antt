@@ -1,6 +1,6 @@
 -- `gpmf_get_avg_sample_duration` meets its contract: it is the call of its name, told as a record. Assumes nothing.
 use mathlib.Core.Path.{ap, _∙_}
-use Rattle.answers.specs.Answers.{ofAverage}
+use Rattle.value_answers.specs.Answers.{ofAverage}
 use borrow.Author.Needs.{needs}
 use Rattle.gpmf.proofs.group_face.gpmf_get_avg_sample_duration.Statement.{statement}
 use Rattle.gpmf.proofs.group_face.gpmf_get_avg_sample_duration.Tie as tie

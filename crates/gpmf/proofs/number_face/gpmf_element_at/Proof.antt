@@ -1,6 +1,6 @@
 -- `gpmf_element_at` meets its contract: it is the call of its name, told as a record. Assumes nothing.
 use mathlib.Core.Path.{ap, _∙_}
-use Rattle.answers.specs.Answers.{ofElement}
+use Rattle.value_answers.specs.Answers.{ofElement}
 use borrow.Author.Needs.{needs}
 use Rattle.gpmf.proofs.number_face.gpmf_element_at.Statement.{statement}
 use Rattle.gpmf.proofs.number_face.gpmf_element_at.Tie as tie

@@ -1,6 +1,6 @@
 -- `gpmf_element` meets its contract: it is the call of its name, told as a record. Assumes nothing.
 use mathlib.Core.Path.{ap, _∙_}
-use Rattle.answers.specs.Answers.{ofRead}
+use Rattle.value_answers.specs.Answers.{ofRead}
 use borrow.Author.Needs.{needs}
 use Rattle.gpmf.proofs.value_face.gpmf_element.Statement.{statement}
 use Rattle.gpmf.proofs.value_face.gpmf_element.Tie as tie

@@ -1,6 +1,6 @@
 -- `gpmf_shape_at` meets its contract: it is the call of its name, told as a record. Assumes nothing.
 use mathlib.Core.Path.{ap, _∙_}
-use Rattle.answers.specs.Answers.{ofShaped}
+use Rattle.value_answers.specs.Answers.{ofShaped}
 use borrow.Author.Needs.{needs}
 use Rattle.gpmf.proofs.value_face.gpmf_shape_at.Statement.{statement}
 use Rattle.gpmf.proofs.value_face.gpmf_shape_at.Tie as tie

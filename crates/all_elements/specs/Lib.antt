@@ -1,0 +1,4 @@
+pub mod Bits
+pub mod All
+pub mod Laid
+pub mod Letter
