@@ -1,6 +1,7 @@
 #!/bin/sh
 # The proved library and the published Rust in one process, asked the same: beside.sh DOCS_SRC [SEED [PAYLOADS [FILE ..]]]
 # DOCS_SRC is the folder that build.sh takes; FILEs are raw files to be asked too, beside those of samples/. Exit 1 at a difference that is not listed.
+# Where GPMF_LIB names a folder with libgpmf.a, that is asked; else what `./gpmf lib` builds.
 set -eu
 [ $# -ge 1 ] || { echo "usage: $0 DOCS_SRC [SEED [PAYLOADS [FILE ..]]]" >&2; exit 2; }
 here=$(cd "$(dirname "$0")" && pwd)
@@ -8,7 +9,11 @@ docs=$1 seed=${2:-1} payloads=${3:-100000}
 shift
 [ $# -eq 0 ] || shift
 [ $# -eq 0 ] || shift
-"$here/../gpmf" lib >&2
+if [ -z "${GPMF_LIB:-}" ]; then
+    "$here/../gpmf" lib >&2
+    GPMF_LIB=$here/../target/lib
+fi
+export GPMF_LIB
 "$here/build.sh" "$docs"
-(cd "$here" && GPMF_LIB=$here/../target/lib cargo build --release --offline --features beside --bin beside)
+(cd "$here" && cargo build --release --offline --features beside --bin beside)
 exec "$here/target/release/beside" "$seed" "$payloads" "$here"/../samples/*.raw "$@"

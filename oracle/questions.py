@@ -491,8 +491,20 @@ def oriented_packets(draw, times):
         yield b"".join(streams)
 
 
+def unread_axes():
+    """GYRO streams whose MTRX, ORIN or ORIO is none that serves: dates, an identifier, texts and structures that cannot be read, and a structure that can."""
+    orin, orio = item(b"ORIN", ord("c"), 1, 3, b"YxZ"), item(b"ORIO", ord("c"), 1, 3, b"XYZ")
+    def structure(key, text, bytes_there):
+        return one(b"TYPE", ord("c"), text) + one(key, ord("?"), bytes(bytes_there))
+    def values(key):
+        return (one(key, ord("U"), b"2"), one(key, ord("U"), b"x40229120000.000"), one(key, ord("G"), b"2222"), item(key, ord("c"), 2, 2, b"\xb2\0\xb2\0"),
+                structure(key, b"f[9]", 4), structure(key, b"f[257]", 4), structure(key, b"f[9]", 36))
+    for parts in [*((m,) for m in values(b"MTRX")), *((orin, orio, m) for m in values(b"MTRX")), *((i, orio) for i in values(b"ORIN")), *((orin, o) for o in values(b"ORIO"))]:
+        yield stream([*parts, item(b"GYRO", ord("s"), 6, 1, bytes(6))])
+
+
 def orientations(draw, times):
-    return (f"oriented {shown(payload)}" for payload in oriented_packets(draw, times))
+    return (f"oriented {shown(payload)}" for payload in itertools.chain(oriented_packets(draw, times), unread_axes()))
 
 
 def stamped_packets(draw, times):
@@ -565,7 +577,8 @@ LISTS = {
         "no-walk": lambda draw, times: no_walks(draw),
     },
     "replay_axes": {"matrix": matrices, "back": backs, "oriented": orientations},
-    "replay_packets": {"cuts": cuts, "packets": packets_read, "quat": quaternions_scaled, "stamp": stamps, "average": averages},
+    "replay_packets": {"cuts": cuts, "packets": packets_read, "quat": quaternions_scaled, "stamp": stamps},
+    "replay_averages": {"average": averages},
 }
 KINDS = {kind: made for kinds in LISTS.values() for kind, made in kinds.items()}
 

@@ -1,6 +1,7 @@
 //! Calls on less than a payload: TYPE texts, dates, UTF-8, axes, matrices, quaternions, duration lists.
 use crate::compare;
 use crate::groups::letters;
+use crate::items::{item, one};
 use crate::library::{self, Axes, IS, Matrix, NOTHING, REFUSED, UNTOUCHED};
 use crate::model;
 use crate::published_side::caught;
@@ -25,12 +26,13 @@ pub fn type_text(text: &[u8], tally: &mut Tally) -> Outcome {
     if characters > model::MOST_CHARACTERS {
         tally.outside += 1;
         tally.call(Call::ResolveCustomType, Theirs::Outside, ours(answer.kind));
-        return same("resolve_custom_type", &(REFUSED, 8, 0), &(answer.kind, answer.number, answer.place));
+        return same("resolve_custom_type", &(REFUSED, 8, 0), &answer.told());
     }
     let theirs: Vec<char> = probe::expand(&latin1(text)).chars().collect();
     tally.call(Call::ResolveCustomType, Theirs::Answer, ours(answer.kind));
-    if answer.kind == REFUSED && answer.number == 8 && theirs.len() > 256 {
+    if theirs.len() > 256 {
         tally.listed(Listed::LongType);
+        same("resolve_custom_type, the refusal", &(REFUSED, 8, 0), &answer.told())?;
         return holds(out.iter().all(|&b| b == UNTOUCHED as u8), || "a refused TYPE text wrote".into());
     }
     same("resolve_custom_type, how many", &(IS, theirs.len() as u64), &(answer.kind, answer.value))?;
@@ -51,7 +53,7 @@ pub fn date(text: &[u8], tally: &mut Tally) -> Outcome {
     }
     match theirs.flatten() {
         Some(ms) => same("parse_utcdate", &(IS, ms), &(answer.kind, answer.value)),
-        None => same("parse_utcdate, the refusal", &(REFUSED, if text.len() < 16 { 6 } else { 7 }, 0), &(answer.kind, answer.number, answer.place)),
+        None => same("parse_utcdate, the refusal", &(REFUSED, if text.len() < 16 { 6 } else { 7 }, 0), &answer.told()),
     }
 }
 
@@ -80,13 +82,12 @@ pub fn axes(orin: &[u8], orio: &[u8], tally: &mut Tally) -> Outcome {
     let answer = library::orientations_of(orin, orio);
     tally.call(Call::Matrix, if theirs.is_some() { Theirs::Answer } else { Theirs::Nothing }, ours(answer.kind));
     let three = |text: &[u8]| text.len() == 3 && text.is_ascii();
-    if answer.kind == REFUSED && answer.number == 9 && !(three(orin) && three(orio)) {
+    if !(three(orin) && three(orio)) {
         tally.listed(Listed::Axes);
-        return Ok(());
+        return same("orientations_of, the refusal", &(REFUSED, 9, 0), &answer.told());
     }
     let axes = |t: &[u8]| Axes { first: t[0], second: t[1], third: t[2] };
-    holds(answer.kind == IS && three(orin) && three(orio), || format!("orientations_of: the Rust has {theirs:?}, the library {answer:?}"))?;
-    same("orientations_of", &(axes(orin), axes(orio)), &(answer.orin, answer.orio))?;
+    same("orientations_of", &(IS, axes(orin), axes(orio)), &(answer.kind, answer.orin, answer.orio))?;
     let matrix = library::orientations_to_matrix(answer.orin, answer.orio).entries;
     same("orientations_to_matrix", &theirs.map(bits), &Some(bits(matrix.to_vec())))?;
     back(&matrix, tally)
@@ -107,7 +108,7 @@ pub fn back(numbers: &[f32], tally: &mut Tally) -> Outcome {
         Some(axes) => same("mtrx_to_orientation", &(IS, axes), &(answer.kind, letters(answer.axes))),
         None => {
             tally.listed(Listed::MatrixPanic);
-            same("mtrx_to_orientation, the refusal", &(REFUSED, 10, 0), &(answer.kind, answer.number, answer.place))
+            same("mtrx_to_orientation, the refusal", &(REFUSED, 10, 0), &answer.told())
         }
     }
 }
@@ -134,15 +135,11 @@ pub struct Timed {
     pub at: f64,
 }
 
-/// A payload of so many readings of GYRO, with a STMP where there is a stamp, in the caller's group.
-fn sample(packet: &Timed) -> SampleInfo {
-    let mut payload = Vec::new();
-    if let Some(us) = packet.stamp {
-        payload.extend([b"STMPJ\x08\0\x01".as_slice(), &us.to_be_bytes()].concat());
-    }
-    payload.extend([b"GYROs\x06".as_slice(), &(packet.count as u16).to_be_bytes()].concat());
-    payload.resize(payload.len() + packet.count as usize * 6, 0);
-    let tag_map = GoPro::parse_metadata(&payload, GroupId::Default, false, &Default::default()).ok();
+/// A packet of so many readings of GYRO, with a STMP where there is a stamp, in the caller's group.
+pub fn sample(packet: &Timed) -> SampleInfo {
+    let stamp = packet.stamp.map_or(Vec::new(), |us| one(b"STMP", b'J', &us.to_be_bytes()));
+    let readings = item(b"GYRO", b's', 6, packet.count as usize, &vec![0; 6 * packet.count as usize]);
+    let tag_map = GoPro::parse_metadata(&[stamp, readings].concat(), GroupId::Default, false, &Default::default()).ok();
     SampleInfo { timestamp_ms: packet.at, duration_ms: packet.duration, tag_map, ..Default::default() }
 }
 
@@ -167,8 +164,11 @@ pub fn average(packets: &[Timed], tally: &mut Tally) -> Outcome {
         Some(Some(_)) => Theirs::Answer,
     };
     tally.call(Call::Average, side, ours(answer.kind));
+    if let Some(entry) = over_limits(packets) {
+        tally.listed(entry);
+        return same("get_avg_sample_duration, the refusal", &(REFUSED, 11, 0), &answer.told());
+    }
     match (theirs, answer.kind) {
-        (_, REFUSED) => over_limits(packets, answer, tally),
         (Some(Some(ms)), IS) => same("get_avg_sample_duration", &double(ms), &double(answer.value)),
         (Some(None), NOTHING) => Ok(()),
         _ => Err(format!("get_avg_sample_duration: the Rust has {theirs:?}, the library {answer:?}")),
@@ -183,20 +183,14 @@ fn asked(packets: &[Timed], missing: &[u8]) -> library::RealAnswer {
     library::get_avg_sample_duration(&counts, &stamped, &stamps, &durations, missing)
 }
 
-/// A list that is refused with 11 is over one of the limits.
-fn over_limits(packets: &[Timed], answer: library::RealAnswer, tally: &mut Tally) -> Outcome {
+/// The limit that a list is over, the first of several.
+fn over_limits(packets: &[Timed]) -> Option<Listed> {
     let any = |over: fn(&Timed) -> bool| packets.iter().any(over);
-    let entry = if packets.len() > 2048 {
-        Listed::Packets
-    } else if any(|p| p.count > 65_535) {
-        Listed::Readings
-    } else if any(|p| p.stamp.is_some_and(|us| us >= 1 << 42)) {
-        Listed::Stamp
-    } else if any(|p| !p.duration.is_finite()) {
-        Listed::Finite
-    } else {
-        return Err(format!("get_avg_sample_duration: a list within the limits is refused: {answer:?}"));
-    };
-    tally.listed(entry);
-    same("get_avg_sample_duration, the refusal", &(REFUSED, 11, 0), &(answer.kind, answer.number, answer.place))
+    let limits = [
+        (packets.len() > 2048, Listed::Packets),
+        (any(|p| p.count > 65_535), Listed::Readings),
+        (any(|p| p.stamp.is_some_and(|us| us >= 1 << 42)), Listed::Stamp),
+        (any(|p| !p.duration.is_finite()), Listed::Finite),
+    ];
+    limits.into_iter().find(|(is_over, _)| *is_over).map(|(_, entry)| entry)
 }

@@ -27,7 +27,7 @@ fn alone(bytes: &[u8], tally: &mut Tally) -> Outcome {
     for forced in [false, true] {
         let numbers = 64 * 8;
         let (answer, rows) = library::read(bytes, forced, numbers);
-        tally.call(Call::ParseMetadata, Theirs::Outside, ours(answer.kind));
+        tally.call(Call::Alone, Theirs::Outside, ours(answer.kind));
         by_document(bytes, forced, answer, &rows, tally)?;
     }
     Ok(())
@@ -55,7 +55,7 @@ fn reading(bytes: &[u8], forced: bool, draw: &mut Draw, tally: &mut Tally) -> Ou
 }
 
 /// The library's answer is document 01's: rows, headers, or the refusal's number and place; what was lent beyond is as it was.
-fn by_document(bytes: &[u8], forced: bool, answer: MetadataAnswer, rows: &[u32], tally: &mut Tally) -> Outcome {
+pub fn by_document(bytes: &[u8], forced: bool, answer: MetadataAnswer, rows: &[u32], tally: &mut Tally) -> Outcome {
     let room = (rows.len() / 8).min(MOST_ROWS);
     same("room", &room, &library::room(rows.len()))?;
     match model::walk(bytes, forced, room) {
@@ -172,16 +172,17 @@ fn chain(bytes: &[u8], from: usize, answer: library::ItemAnswer, call: Call, tal
         Some(_) => Theirs::Answer,
     };
     tally.call(call, side, ours(answer.kind));
+    if bytes.len() > MOST_BYTES {
+        return same("the last item of a payload over the limit", &(REFUSED, 1, 0), &answer.told()); // listed with its reading
+    }
     match (side, answer.kind) {
-        (Theirs::Answer, REFUSED) if bytes.len() > MOST_BYTES && (answer.number, answer.place) == (1, 0) => tally.listed(Listed::Bytes),
         (Theirs::Answer, IS) => {
             same("the last item's place", &place, &Some(answer.place))?;
             same("the last item's header", &header_at(bytes, answer.place), &answer.klv)?;
         }
         (Theirs::Nothing, NOTHING) => (),
         (Theirs::Error, REFUSED) => {
-            let expected = if bytes.len() > MOST_BYTES { Err(Refusal { number: 1, place: 0 }) } else { model::last(bytes, from) };
-            same("the last item's refusal", &expected, &Err(Refusal { number: answer.number, place: answer.place }))?;
+            same("the last item's refusal", &model::last(bytes, from), &Err(Refusal { number: answer.number, place: answer.place }))?;
             tally.listed(Listed::TwoFindings);
         }
         _ => return Err(format!("{}: the Rust has {}, the library {answer:?}", call.text(), side.text())),
@@ -221,7 +222,7 @@ fn header(bytes: &[u8], place: usize, tally: &mut Tally) -> Outcome {
     let Some(klv) = theirs else {
         tally.listed(Listed::TwoFindings);
         let number = if place >= bytes.len() || bytes.len() - place < 8 { 12 } else { 2 };
-        return same("parse_header, the refusal", &(REFUSED, number, place), &(answer.kind, answer.number, answer.place));
+        return same("parse_header, the refusal", &(REFUSED, number, place), &answer.told());
     };
     let expected = (IS, key_number(&klv.key), klv.data_type, klv.size, klv.repeat, klv.data_len(), klv.aligned_data_len());
     let found = answer.klv;

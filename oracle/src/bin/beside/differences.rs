@@ -1,5 +1,5 @@
 //! The smallest input of each entry of docs/DIFFERENCES.md: the Rust answers this and the library that, as the entry says.
-use crate::calls::Timed;
+use crate::calls::{self, Timed};
 use crate::input::Input;
 use crate::items::{container, header, nested, one};
 use crate::library::{self, IS, NOTHING, REFUSED};
@@ -75,27 +75,12 @@ fn over_limit(payload: &[u8], rows: usize, headers: usize, number: u32, place: u
     let walked = published_side::walk(payload, false);
     same("the Rust's rows and headers", &(true, rows, headers), &(walked.map.is_some(), walked.items.len(), walked.headers))?;
     let (answer, _) = library::read(payload, false, 5000 * 8);
-    same("the refusal", &(REFUSED, number, place), &(answer.kind, answer.number, answer.place))
+    same("the refusal", &(REFUSED, number, place), &answer.told())
 }
 
 /// A duration list: what the Rust answers, and a refusal with 11 that falls under an entry.
 fn refused_list(packets: &[Timed], theirs: Option<f64>, entry: Listed) -> Outcome {
-    let payload = |p: &Timed| {
-        [
-            p.stamp.map_or(Vec::new(), |us| one(b"STMP", b'J', &us.to_be_bytes())),
-            crate::items::item(b"GYRO", b's', 6, p.count as usize, &vec![0; 6 * p.count as usize]),
-        ]
-        .concat()
-    };
-    let samples = packets
-        .iter()
-        .map(|p| published::SampleInfo {
-            timestamp_ms: p.at,
-            duration_ms: p.duration,
-            tag_map: published_side::walk(&payload(p), false).map,
-            ..Default::default()
-        })
-        .collect();
+    let samples = packets.iter().map(calls::sample).collect();
     same("the Rust's average", &theirs.map(double), &probe::avg(&samples, &GroupId::Default).map(double))?;
     listed_alone(entry, &Input::Average(packets.to_vec()))
 }
@@ -356,22 +341,7 @@ fn short_quaternions_and_stamps() -> Outcome {
     listed_alone(Listed::NegativeStamp, &Input::Payload(payload))
 }
 
-fn axes_of_unread_values() -> Outcome {
-    let orin = [one(b"ORIN", b'U', b"2"), one(b"ORIO", b'B', b"X")].concat();
-    for items in [one(b"MTRX", b'U', b"2"), orin] {
-        let payload = gyro_stream(items);
-        let map = published_side::walk(&payload, false).map.expect("an accepted reading");
-        same("the Rust's axes", &None, &probe::oriented_group(&GroupId::Gyroscope, &map[&GroupId::Gyroscope]))?;
-        let (answer, rows) = library::read(&payload, false, 80);
-        let axes = library::orientation_of_group(&payload, &rows, answer.rows, 1, u32::from_be_bytes(*b"GYRO"));
-        same("orientation_of_group", &(REFUSED, 6, 8), &(axes.kind, axes.number, axes.place))?;
-        // the value of a date of 1 byte is itself an entry, 7
-        listed_among(&[Listed::DatePanic, Listed::AxesValue], &Input::Payload(payload))?;
-    }
-    Ok(())
-}
-
-const ENTRIES: [(&str, fn() -> Outcome); 23] = [
+const ENTRIES: [(&str, fn() -> Outcome); 22] = [
     ("1, the divisor of Q", divisor_of_q),
     ("2, size against the widths of letters", size_against_widths),
     ("3, MAGN has a group and no tag", magn_has_no_tag),
@@ -394,7 +364,6 @@ const ENTRIES: [(&str, fn() -> Outcome); 23] = [
     ("18, axes that are not three ASCII characters", other_axes),
     ("19, DEVC inside a packet", devc_inside),
     ("20, quaternions with too few bytes, and stamps of 2^63 or more", short_quaternions_and_stamps),
-    ("21, axes out of a value that cannot be read", axes_of_unread_values),
 ];
 
 /// Every entry is as it says; each that is not is told.

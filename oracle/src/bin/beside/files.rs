@@ -1,4 +1,5 @@
 //! A raw file beside the Rust: its cuts, each packet's reading, and the same through windows of several sizes.
+use crate::compare;
 use crate::draw::Draw;
 use crate::library::{self, IS, MORE, MOST_BYTES, MetadataAnswer, Packets, REFUSED, UNTOUCHED};
 use crate::published_side;
@@ -19,12 +20,12 @@ pub fn file(bytes: &[u8], tally: &mut Tally) -> Outcome {
     let mut draw = Draw::of(bytes);
     let cuts = probe::cuts(bytes);
     searches(bytes, &mut draw, tally)?;
-    same("packets_next", &cuts, &packets(bytes, 0, tally))?;
+    packets(bytes, 0, &cuts, tally)?;
     let from = draw.below(bytes.len() + 2);
-    same("packets_next from a place", &cuts.iter().copied().filter(|(start, _)| start - 8 >= from).collect(), &packets(bytes, from, tally))?;
+    packets(bytes, from, &cuts.iter().copied().filter(|(start, _)| start - 8 >= from).collect(), tally)?;
     let forced = draw.chance(30);
     let numbers = draw.pick(&[8 * 64, 8 * 8 + 3, 8, 0]);
-    let whole = readings(bytes, forced, numbers, tally);
+    let whole = readings(bytes, forced, numbers);
     same("next_metadata's packets", &cuts, &whole.iter().map(|r| (r.start, r.end)).collect())?;
     for reading in &whole {
         packet(bytes, reading, forced, numbers, tally)?;
@@ -51,20 +52,21 @@ fn searches(bytes: &[u8], draw: &mut Draw, tally: &mut Tally) -> Outcome {
     Ok(())
 }
 
-fn packets(bytes: &[u8], from: usize, tally: &mut Tally) -> Vec<(usize, usize)> {
+/// The packets from a place on, one by one, beside the Rust's.
+fn packets(bytes: &[u8], from: usize, cuts: &Vec<(usize, usize)>, tally: &mut Tally) -> Outcome {
     let (mut found, mut cursor) = (Vec::new(), library::packets_new(from));
     loop {
         let answer = library::packets_next(cursor, bytes);
-        tally.call(Call::PacketsNext, if answer.kind == IS { Theirs::Answer } else { Theirs::Nothing }, ours(answer.kind));
+        tally.call(Call::PacketsNext, if found.len() < cuts.len() { Theirs::Answer } else { Theirs::Nothing }, ours(answer.kind));
         if answer.kind != IS {
-            return found;
+            return same("packets_next", cuts, &found);
         }
         found.push((answer.packet.start, answer.packet.end));
         cursor = answer.rest;
     }
 }
 
-fn readings(bytes: &[u8], forced: bool, numbers: usize, tally: &mut Tally) -> Vec<Reading> {
+fn readings(bytes: &[u8], forced: bool, numbers: usize) -> Vec<Reading> {
     let (mut found, mut cursor) = (Vec::new(), library::packets_new(0));
     loop {
         let mut rows = vec![UNTOUCHED; numbers];
@@ -72,31 +74,32 @@ fn readings(bytes: &[u8], forced: bool, numbers: usize, tally: &mut Tally) -> Ve
         if answer.kind != IS {
             return found;
         }
-        let read = if answer.metadata.kind == IS { Theirs::Answer } else { Theirs::Error };
-        tally.call(Call::NextMetadata, read, ours(answer.metadata.kind));
         found.push(Reading { start: answer.packet.start, end: answer.packet.end, answer: answer.metadata, rows });
         cursor = answer.rest;
     }
 }
 
-/// A packet is read as its own bytes are; the Rust passes over one that it cannot read.
+/// A packet is read as its own bytes are, and as document 01 says; the Rust passes over one that it cannot read.
 fn packet(bytes: &[u8], reading: &Reading, forced: bool, numbers: usize, tally: &mut Tally) -> Outcome {
     let payload = &bytes[reading.start..reading.end];
     same("next_metadata", &library::read(payload, forced, numbers), &(reading.answer, reading.rows.clone()))?;
+    compare::by_document(payload, forced, reading.answer, &reading.rows, tally)?;
     if !crate::model::is_within_memory(payload) {
         tally.outside += 1;
+        tally.call(Call::NextMetadata, Theirs::Outside, ours(reading.answer.kind));
         return Ok(());
     }
-    let theirs = published_side::walk(payload, forced).map.is_some();
-    match (theirs, reading.answer.kind) {
+    let is_read = published_side::walk(payload, forced).map.is_some();
+    tally.call(Call::NextMetadata, if is_read { Theirs::Answer } else { Theirs::Error }, ours(reading.answer.kind));
+    match (is_read, reading.answer.kind) {
         (false, REFUSED) => {
             tally.listed(Listed::Told);
             Ok(())
         }
         (true, IS) => Ok(()),
-        // a limit or a small room: what `compare` holds each payload to
+        // a limit or a small room, as document 01 says
         (true, REFUSED) if matches!(reading.answer.number, 1 | 4 | 5) => Ok(()),
-        _ => Err(format!("next_metadata: the Rust reads it: {theirs}, the library {reading:?}")),
+        _ => Err(format!("next_metadata: the Rust reads it: {is_read}, the library {reading:?}")),
     }
 }
 
@@ -126,6 +129,7 @@ impl<'a> Window<'a> {
     }
 }
 
+/// The Rust has no windows, and is not asked: what they give must be what the whole file gave.
 fn windows(bytes: &[u8], size: usize, cuts: &[(usize, usize)], whole: &[Reading], forced: bool, numbers: usize, tally: &mut Tally) -> Outcome {
     same("packets_next_in", &cuts.to_vec(), &packets_in(Window::new(bytes, size), tally))?;
     let found = readings_in(Window::new(bytes, size), forced, numbers, tally);
@@ -138,16 +142,11 @@ fn windows(bytes: &[u8], size: usize, cuts: &[(usize, usize)], whole: &[Reading]
     Ok(())
 }
 
-/// The Rust has no windows: of the whole file it has an answer for each packet, and none for what lies between.
-fn cut_or_not(kind: u32) -> Theirs {
-    if matches!(kind, IS | REFUSED) { Theirs::Answer } else { Theirs::Outside }
-}
-
 fn packets_in(mut window: Window, tally: &mut Tally) -> Vec<(usize, usize)> {
     let (mut found, mut cursor) = (Vec::new(), library::packets_new(0));
     loop {
         let answer = library::packets_next_in(cursor, window.held(), window.more());
-        tally.call(Call::PacketsNextIn, cut_or_not(answer.kind), ours(answer.kind));
+        tally.call(Call::PacketsNextIn, Theirs::Outside, ours(answer.kind));
         match answer.kind {
             IS => found.push((window.base + answer.packet.start, window.base + answer.packet.end)),
             MORE => window.step(answer.place),
@@ -163,7 +162,7 @@ fn readings_in(mut window: Window, forced: bool, numbers: usize, tally: &mut Tal
         let mut rows = vec![UNTOUCHED; numbers];
         let answer = library::next_metadata_in(cursor, window.held(), window.more(), forced, &mut rows);
         let (start, end) = (window.base + answer.packet.start, window.base + answer.packet.end);
-        tally.call(Call::NextMetadataIn, cut_or_not(answer.kind), ours(answer.kind));
+        tally.call(Call::NextMetadataIn, Theirs::Outside, ours(answer.kind));
         match answer.kind {
             IS => found.push(Reading { start, end, answer: answer.metadata, rows }),
             REFUSED => found.push(Reading {

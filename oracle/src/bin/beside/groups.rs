@@ -1,11 +1,11 @@
 //! What the rows of a reading lead to: lookup, and a group's stamp, quaternions and axes.
 use crate::draw::Draw;
-use crate::library::{self, IS, NOTHING, REFUSED};
+use crate::library::{self, IS, NOTHING, REFUSED, Told};
 use crate::published_side::{Walked, caught, group};
-use crate::tally::{Call, Listed, Outcome, Tally, Theirs, holds, ours, same};
+use crate::tally::{Call, Listed, Outcome, Tally, Theirs, ours, same};
 use published::gopro::klv::probe;
-use published::plain::{Plain, double};
-use published::tags_impl::{GroupId, GroupedTagMap, TagDescription, TagId, TagMap, probe_rows, probe_tag_number};
+use published::plain::{Plain, ReadBack, double};
+use published::tags_impl::{GroupId, GroupedTagMap, TagDescription, TagId, TagMap, TagValue, probe_rows, probe_tag_number};
 use std::collections::BTreeMap;
 
 // ---- lookup
@@ -23,7 +23,7 @@ pub fn lookups(bytes: &[u8], walked: &Walked, rows: &[u32], draw: &mut Draw, tal
             lookup(bytes, rows, walked.items.len(), entry, last[&(group, id)], tally)?;
         }
     }
-    stranger(map, rows, walked.items.len(), draw, tally)
+    stranger(&last, rows, walked.items.len(), draw, tally)
 }
 
 fn lookup(bytes: &[u8], rows: &[u32], count: usize, entry: &TagDescription, expected: usize, tally: &mut Tally) -> Outcome {
@@ -33,20 +33,21 @@ fn lookup(bytes: &[u8], rows: &[u32], count: usize, entry: &TagDescription, expe
     same("lookup", &(IS, expected as u64), &(answer.kind, answer.value))?;
     let item = library::tagged_item(bytes, rows, count, kind, group_key, tag, key);
     tally.call(Call::TaggedItem, Theirs::Answer, ours(item.kind));
+    let row = library::row_at(rows, expected).row;
+    same("tagged_item", &(IS, row.place as usize, row.klv()), &(item.kind, item.place, item.klv))?;
     let raw = probe_rows(&entry.value).1;
-    let found = bytes.get(item.place..item.place + raw.len());
-    holds(item.kind == IS && found == Some(raw), || format!("tagged_item finds other bytes than the Rust's entry: {item:?}"))
+    same("the bytes of tagged_item", &Some(raw), &bytes.get(item.place..item.place + raw.len()))
 }
 
 /// A group, a tag and a key that the map may or may not have.
-fn stranger(map: &GroupedTagMap, rows: &[u32], count: usize, draw: &mut Draw, tally: &mut Tally) -> Outcome {
+fn stranger(last: &BTreeMap<(&GroupId, &TagId), usize>, rows: &[u32], count: usize, draw: &mut Draw, tally: &mut Tally) -> Outcome {
     let key = u32::from_be_bytes(*draw.pick(&[b"GYRO", b"ABCD", b"TICK", b"SCAL", b"\0\0\0\0"]));
     let id = published::gopro::klv::KLV { key: key.to_be_bytes(), ..Default::default() }.tag_id();
     let name = draw.pick(&[b"GYRO", b"ABCD", b"MWET"]);
-    let theirs = map.get(&published::gopro::klv::KLV::group_from_key(name)).and_then(|tags| tags.get(&id));
+    let theirs = last.get(&(&published::gopro::klv::KLV::group_from_key(name), &id)).map(|n| *n as u64);
     let answer = library::lookup(rows, count, 1, u32::from_be_bytes(*name), probe_tag_number(&id), key);
     tally.call(Call::Lookup, if theirs.is_some() { Theirs::Answer } else { Theirs::Nothing }, ours(answer.kind));
-    same("lookup of any group", &if theirs.is_some() { IS } else { NOTHING }, &answer.kind)
+    same("lookup of any group", &(if theirs.is_some() { IS } else { NOTHING }, theirs.unwrap_or(0)), &(answer.kind, answer.value))
 }
 
 // ---- a group
@@ -63,6 +64,7 @@ struct Asked<'a> {
 pub fn payload(bytes: &[u8], map: &GroupedTagMap, rows: &[u32], count: usize, tally: &mut Tally) -> Outcome {
     for (id, tags) in map {
         let asked = Asked { bytes, rows, count, id, tags };
+        asked.refusals()?;
         asked.stamp(tally)?;
         match id {
             GroupId::CameraOrientation | GroupId::ImageOrientation => asked.quaternions(tally)?,
@@ -73,12 +75,52 @@ pub fn payload(bytes: &[u8], map: &GroupedTagMap, rows: &[u32], count: usize, ta
     Ok(())
 }
 
-/// The type byte of an entry's item.
-fn letter(entry: Option<&TagDescription>) -> Option<u8> {
-    entry.map(|e| probe_rows(&e.value).1[4])
-}
-
 impl Asked<'_> {
+    /// The place of the item that the Rust's entry of a tag comes from, as `lookup` found it.
+    fn place_of(&self, id: TagId) -> Option<usize> {
+        let (kind, key) = group(self.id);
+        let name = self.tags.get(&id)?.native_id?;
+        Some(library::tagged_item(self.bytes, self.rows, self.count, kind, key, probe_tag_number(&id), name).place)
+    }
+
+    /// What the calls on a group answer of any payload and count: its data, stamp, first quaternion and axes.
+    fn told(&self, bytes: &[u8], count: usize) -> [Told; 4] {
+        let (kind, key) = group(self.id);
+        [
+            library::tagged_item(bytes, self.rows, count, kind, key, 1, 0).told(),
+            library::stamp_us(bytes, self.rows, count, kind, key).told(),
+            library::scaled_quaternion(bytes, self.rows, count, kind, key, 0).told(),
+            library::orientation_of_group(bytes, self.rows, count, kind, key).told(),
+        ]
+    }
+
+    /// Refusals of which the Rust knows nothing: a count over the room (5), a payload over the limit (1), rows of another payload (12 and 2).
+    fn refusals(&self) -> Outcome {
+        let (kind, key) = group(self.id);
+        for count in [library::room(self.rows.len()) + 1, usize::MAX] {
+            same("lookup, a count over the room", &(REFUSED, 5, 0), &library::lookup(self.rows, count, kind, key, 1, 0).told())?;
+            same("a count over the room", &[(REFUSED, 5, 0); 4], &self.told(self.bytes, count))?;
+        }
+        same("a payload over the limit", &[(REFUSED, 1, 0); 4], &self.told(&library::LONG, self.count))?;
+        let data = self.place_of(TagId::Data);
+        let stamp = self.place_of(TagId::TimestampUs).or_else(|| self.place_of(TagId::Unknown(u32::from_be_bytes(*b"TICK"))));
+        let orin = self.place_of(TagId::OrientationIn).filter(|_| self.tags.contains_key(&TagId::OrientationOut));
+        for (n, first) in [data, stamp, data, self.place_of(TagId::Matrix).or(orin)].into_iter().enumerate() {
+            self.elsewhere(n, first)?;
+        }
+        Ok(())
+    }
+
+    /// One of these calls on other payloads: the item that it reads first is not there or is zeros (12), or only its header is there (2).
+    fn elsewhere(&self, call: usize, first: Option<usize>) -> Outcome {
+        let Some(place) = first else { return same("a group that has no such item", &(NOTHING, 0, 0), &self.told(self.bytes, self.count)[call]) };
+        let others = [(&self.bytes[..place], 12), (&self.bytes[..place + 8], 2), (&library::LONG[..self.bytes.len()], 12)];
+        for (bytes, number) in others {
+            same("rows of another payload", &(REFUSED, number, place), &self.told(bytes, self.count)[call])?;
+        }
+        Ok(())
+    }
+
     fn stamp(&self, tally: &mut Tally) -> Outcome {
         let theirs = caught(|| probe::stamp(self.tags));
         let (kind, key) = group(self.id);
@@ -89,7 +131,10 @@ impl Asked<'_> {
             Some(Some(_)) => Theirs::Answer,
         };
         tally.call(Call::StampUs, side, ours(answer.kind));
-        let is_date = letter(self.tags.get(&TagId::TimestampUs)) == Some(b'U');
+        if let Some(refusal) = self.unreadable_stamp() {
+            tally.listed(Listed::StampDate);
+            return same("stamp_us, the refusal of a date", &refusal, &answer.told());
+        }
         match (theirs, answer.kind) {
             (Some(Some(us)), IS) => {
                 if us < 0 {
@@ -98,12 +143,15 @@ impl Asked<'_> {
                 same("stamp_us", &(us as u64), &answer.value)
             }
             (Some(None), NOTHING) => Ok(()),
-            (None | Some(Some(0)), REFUSED) if is_date && matches!(answer.number, 6 | 7) => {
-                tally.listed(Listed::StampDate);
-                Ok(())
-            }
             _ => Err(format!("stamp_us: the Rust has {theirs:?}, the library {answer:?}")),
         }
+    }
+
+    /// What the stamp is refused with where STMP is a date that the Rust cannot read: 6 where it has fewer than 16 bytes, else 7.
+    fn unreadable_stamp(&self) -> Option<Told> {
+        let (_, item, read) = probe_rows(&self.tags.get(&TagId::TimestampUs)?.value);
+        let is_unreadable = item[4] == b'U' && !matches!(read, ReadBack::Is(_));
+        is_unreadable.then_some((REFUSED, if item.len() < 24 { 6 } else { 7 }, self.place_of(TagId::TimestampUs)?))
     }
 
     fn quaternions(&self, tally: &mut Tally) -> Outcome {
@@ -126,7 +174,8 @@ impl Asked<'_> {
         if list.is_empty() {
             tally.listed(Listed::ShortQuaternions);
         }
-        same("scaled_quaternion behind the last", &(REFUSED, if list.is_empty() { 6 } else { 13 }), &(behind.kind, behind.number))
+        let number = if list.is_empty() { 6 } else { 13 };
+        same("scaled_quaternion behind the last", &self.place_of(TagId::Data).map(|place| (REFUSED, number, place)), &Some(behind.told()))
     }
 
     fn axes(&self, tally: &mut Tally) -> Outcome {
@@ -139,52 +188,34 @@ impl Asked<'_> {
             Some(Some(_)) => Theirs::Answer,
         };
         tally.call(Call::OrientationOfGroup, side, ours(answer.kind));
+        same("whether axes are refused with 9", &self.has_other_axes(), &(answer.kind == REFUSED && answer.number == 9))?;
         match (&theirs, answer.kind) {
             (Some(Some(axes)), IS) => same("orientation_of_group", axes, &letters(answer.axes)),
             (Some(None), NOTHING) => Ok(()),
-            (None, REFUSED) if answer.number == 10 => {
+            (None, REFUSED) if (answer.number, answer.place) == (10, 0) => {
                 tally.listed(Listed::MatrixPanic);
                 Ok(())
             }
-            (_, REFUSED) if answer.number == 9 && self.has_other_axes() => {
+            (_, REFUSED) if (answer.number, answer.place) == (9, 0) => {
                 tally.listed(Listed::Axes);
-                Ok(())
-            }
-            (Some(None), REFUSED) if self.is_unread(answer) => {
-                tally.listed(Listed::AxesValue);
                 Ok(())
             }
             _ => Err(format!("orientation_of_group: the Rust has {theirs:?}, the library {answer:?}")),
         }
     }
 
-    /// Whether a refusal is that of the value of a MTRX, ORIN or ORIO which is no text and no matrix, so that the Rust does not read it.
-    fn is_unread(&self, answer: library::AxesAnswer) -> bool {
-        let (kind, key) = group(self.id);
-        [(TagId::Matrix, b"MTRX"), (TagId::OrientationIn, b"ORIN"), (TagId::OrientationOut, b"ORIO")].iter().any(|(id, name)| {
-            let Some(entry) = self.tags.get(id) else { return false };
-            let item = library::tagged_item(self.bytes, self.rows, self.count, kind, key, probe_tag_number(id), u32::from_be_bytes(**name));
-            let shape = library::shape_at(self.bytes, item.place, self.type_place(item.place));
-            let passed_over = !matches!(probe_rows(&entry.value).0, "String" | "Vec_Vec_f32");
-            passed_over && (shape.kind, shape.number, shape.place) == (REFUSED, answer.number, answer.place)
-        })
-    }
-
-    /// The TYPE of the row of an item at a place.
-    fn type_place(&self, place: usize) -> usize {
-        let row = (0..self.count).map(|n| library::row_at(self.rows, n).row).find(|row| row.place as usize == place);
-        row.map_or(library::NO_TYPE, |row| row.type_place) as usize
-    }
-
     /// Whether ORIN or ORIO is a text of another length than three, or not ASCII.
     fn has_other_axes(&self) -> bool {
-        let other = |id| {
-            self.tags.get(&id).is_some_and(|entry| match &entry.value {
-                published::tags_impl::TagValue::String(text) => text.get().len() != 3 || !text.get().is_ascii(),
-                _ => false,
-            })
+        // both are one text, and there is no MTRX to be taken in their place
+        let text = |id| match &self.tags.get(&id)?.value {
+            TagValue::String(text) => Some(text.get().clone()),
+            _ => None,
         };
-        other(TagId::OrientationIn) || other(TagId::OrientationOut)
+        let are_three = |text: String| text.len() == 3 && text.is_ascii();
+        match (text(TagId::OrientationIn), text(TagId::OrientationOut)) {
+            (Some(orin), Some(orio)) => !self.tags.contains_key(&TagId::Matrix) && !(are_three(orin) && are_three(orio)),
+            _ => false,
+        }
     }
 }
 

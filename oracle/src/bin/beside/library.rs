@@ -35,6 +35,7 @@ records! {
     RealAnswer { kind: u32, number: u32, place: usize, value: f64 }
     ItemAnswer { kind: u32, number: u32, place: usize, klv: Klv }
     ElementAnswer { kind: u32, number: u32, place: usize, element: NumberRecord }
+    PartAnswer { kind: u32, number: u32, place: usize, start: usize, length: usize }
     ShapeAnswer { kind: u32, number: u32, place: usize, value_kind: u32, rows: usize, columns: usize }
     RowAnswer { kind: u32, number: u32, place: usize, row: Row }
     MetadataAnswer { kind: u32, number: u32, place: usize, rows: usize, headers: usize }
@@ -44,6 +45,14 @@ records! {
     PacketAnswer { kind: u32, number: u32, place: usize, packet: Packet, rest: Packets }
     PacketMetadataAnswer { kind: u32, number: u32, place: usize, packet: Packet, metadata: MetadataAnswer, rest: Packets }
 }
+
+/// The kind of an answer, and the number and the place of a refusal.
+pub type Told = (u32, u32, usize);
+
+macro_rules! tell {
+    ($($name:ident)*) => { $(impl $name { pub fn told(&self) -> Told { (self.kind, self.number, self.place) } })* };
+}
+tell! { WholeAnswer RealAnswer ItemAnswer ElementAnswer PartAnswer ShapeAnswer MetadataAnswer AxesAnswer OrientationsAnswer QuaternionAnswer }
 
 impl Row {
     pub fn klv(&self) -> Klv {
@@ -94,6 +103,10 @@ calls! {
     "gpmf_element" element(slice s: u8, plain at: usize, plain type_at: usize, plain row: usize, plain column: usize) -> ElementAnswer;
     "gpmf_shape_at" shape_at(slice s: u8, plain at: usize, plain type_at: usize) -> ShapeAnswer;
     "gpmf_columns_at" columns_at(slice s: u8, plain at: usize, plain type_at: usize, plain row: usize) -> WholeAnswer;
+    "gpmf_klv_at" klv_at(slice s: u8, plain at: usize, plain type_at: usize) -> ItemAnswer;
+    "gpmf_bytes_at" bytes_at(slice s: u8, plain at: usize, plain type_at: usize) -> PartAnswer;
+    "gpmf_text_at" text_at(slice s: u8, plain at: usize, plain type_at: usize, plain row: usize) -> PartAnswer;
+    "gpmf_elements_at" elements_at(slice s: u8, plain at: usize, plain type_at: usize, lent numbers: u64) -> WholeAnswer;
     "gpmf_cursor_new" cursor_new(plain at: usize) -> Cursor;
     "gpmf_parse_header" parse_header(plain cursor: Cursor, slice s: u8) -> ItemAnswer;
     "gpmf_data_len" data_len(plain klv: Klv) -> usize;
@@ -102,12 +115,15 @@ calls! {
     "gpmf_is_type_text" is_type_text(plain klv: Klv) -> bool;
     "gpmf_tag_id" tag_id(plain key: u32) -> u32;
     "gpmf_group_from_key" group_from_key(plain key: u32) -> GroupId;
+    "gpmf_big_endian" big_endian(slice part: u8) -> u64;
     "gpmf_q15_16" q15_16(plain high: i16, plain low: u16) -> f32;
     "gpmf_q31_32" q31_32(plain high: i32, plain low: u32) -> f64;
     "gpmf_q31_32_exact" q31_32_exact(plain high: i32, plain low: u32) -> Exact;
     "gpmf_width" width(plain letter: u8) -> usize;
     "gpmf_element_at" element_at(slice s: u8, plain at: usize, plain letter: u8) -> NumberRecord;
     "gpmf_exact_at" exact_at(slice s: u8, plain at: usize) -> Exact;
+    "gpmf_single_bits" single_bits(plain x: f32) -> u32;
+    "gpmf_double_bits" double_bits(plain x: f64) -> u64;
     "gpmf_latin1_len" latin1_len(slice text: u8) -> usize;
     "gpmf_utf8_len" utf8_len(slice text: u8) -> usize;
     "gpmf_is_utf8" is_utf8(slice text: u8) -> bool;
@@ -147,6 +163,9 @@ pub fn resolve_custom_type(text: &[u8]) -> (WholeAnswer, [u8; 256]) {
     let answer = unsafe { gpmf_resolve_custom_type(text.as_ptr(), text.len(), out.as_mut_ptr()) };
     (answer, out)
 }
+
+/// A payload of zeros, over the limit by a byte.
+pub static LONG: [u8; MOST_BYTES + 1] = [0; MOST_BYTES + 1];
 
 /// What lent memory has before a call, to be told apart from what the call writes.
 pub const UNTOUCHED: u32 = 0xa5c3_96e1;

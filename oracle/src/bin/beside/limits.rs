@@ -10,7 +10,8 @@ pub fn all() -> Vec<Input> {
 
 fn bytes() -> Vec<Vec<u8>> {
     let filled = |length: usize| item(b"LONG", b'B', 255, 4112, &vec![7; 255 * 4112]).into_iter().chain([0; 64].into_iter().cycle()).take(length).collect();
-    (1_048_575..1_048_578).flat_map(|length| [vec![0; length], filled(length)]).collect()
+    // in eight bytes more than the limit the last item is whole
+    [1_048_575, 1_048_576, 1_048_577, 1_048_584].iter().flat_map(|length| [vec![0; *length], filled(*length)]).collect()
 }
 
 fn depths() -> Vec<Vec<u8>> {
@@ -23,8 +24,10 @@ fn depths() -> Vec<Vec<u8>> {
 
 fn rows() -> Vec<Vec<u8>> {
     let some = |count: usize| one(b"ABCD", b'B', &[1]).repeat(count);
-    let mut all: Vec<Vec<u8>> = [4095, 4096, 4097, 5000].map(some).to_vec();
-    all.extend([2000, 2096, 2097].map(|count| [container(b"STRM", &some(2000)), container(b"STRM", &some(count))].concat()));
+    // up to 128 rows the walk is one pass
+    let mut all: Vec<Vec<u8>> = [127, 128, 129, 4095, 4096, 4097, 5000].map(some).to_vec();
+    let pairs = [(64, 64), (64, 65), (2000, 2000), (2000, 2096), (2000, 2097)];
+    all.extend(pairs.map(|(first, second)| [container(b"STRM", &some(first)), container(b"STRM", &some(second))].concat()));
     all
 }
 

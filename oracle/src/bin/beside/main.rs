@@ -12,6 +12,7 @@ mod items;
 mod library;
 mod limits;
 mod model;
+mod parted;
 mod published_side;
 mod takes;
 mod tally;
@@ -19,6 +20,7 @@ mod values;
 
 use generate::{Generator, Kind};
 use input::Input;
+use parted::parted;
 use std::sync::atomic::{AtomicU64, Ordering};
 use tally::{Call, Listed, Ours, Tally, Theirs};
 
@@ -92,17 +94,10 @@ fn run(generator: &Generator, payloads: u64) -> Found {
 
 // ---- what is printed
 
-/// A number with its thousands parted.
-fn shown(n: u64) -> String {
-    let digits = n.to_string();
-    let parts: Vec<&str> = digits.as_bytes().rchunks(3).rev().map(|part| std::str::from_utf8(part).expect("digits")).collect();
-    parts.join(",")
-}
-
 fn print_counts(found: &Found) {
     println!("\ninputs");
     for kind in Kind::ALL {
-        println!("  {:>12}  {}", shown(found.kinds[*kind as usize]), kind.text());
+        println!("  {:>12}  {}", parted(found.kinds[*kind as usize]), kind.text());
     }
     println!(
         "\n{:<42} {}   {}",
@@ -112,20 +107,20 @@ fn print_counts(found: &Found) {
     );
     for call in Call::ALL {
         let counts = found.tally.calls[*call as usize];
-        let columns = |numbers: &[u64]| numbers.iter().map(|n| format!("{:>12}", shown(*n))).collect::<String>();
+        let columns = |numbers: &[u64]| numbers.iter().map(|n| format!("{:>12}", parted(*n))).collect::<String>();
         println!("  {:<40} {}   {}", call.text(), columns(&counts.theirs), columns(&counts.ours));
     }
     let t = &found.tally;
     println!(
         "\n  {} values, {} elements; {} readings with a room that is too small; {} inputs on which the Rust's process would end, so that it was not asked",
-        shown(t.values),
-        shown(t.elements),
-        shown(t.small_rooms),
-        shown(t.outside)
+        parted(t.values),
+        parted(t.elements),
+        parted(t.small_rooms),
+        parted(t.outside)
     );
     println!("\nlisted differences (docs/DIFFERENCES.md)");
     for entry in Listed::ALL {
-        println!("  {:>12}  {}", shown(t.listed[*entry as usize]), entry.text());
+        println!("  {:>12}  {}", parted(t.listed[*entry as usize]), entry.text());
     }
 }
 
@@ -170,9 +165,9 @@ fn main() {
     print_counts(&found);
     let asked: u64 = Kind::ALL.iter().filter(|kind| (**kind as usize) < Kind::RawFile as usize).map(|kind| found.kinds[*kind as usize]).sum();
     let unlisted = found.unlisted;
-    println!("\nseed {seed}: {seconds:.0} seconds, {} payloads a second", shown((asked as f64 / seconds) as u64));
+    println!("\nseed {seed}: {seconds:.0} seconds, {} payloads a second", parted((asked as f64 / seconds) as u64));
     print_differences(found);
-    println!("{} payloads, {unlisted} differences that docs/DIFFERENCES.md does not list", shown(asked));
+    println!("{} payloads, {unlisted} differences that docs/DIFFERENCES.md does not list", parted(asked));
     if unlisted > 0 {
         std::process::exit(1);
     }

@@ -15,6 +15,7 @@ named! {
     /// The calls that are compared, by the header's names without their `gpmf_`.
     Call {
         ParseMetadata = "parse_metadata",
+        Alone = "parse_metadata, the Rust not asked",
         Front = "parse_metadata, before a refusal's place",
         RowAt = "row_at, put_row",
         Lookup = "lookup",
@@ -24,7 +25,10 @@ named! {
         ShapeAt = "shape_at",
         ColumnsAt = "columns_at",
         Element = "element",
-        ElementAt = "element_at",
+        ElementsAt = "elements_at",
+        KlvAt = "klv_at, bytes_at",
+        TextAt = "text_at",
+        ElementAt = "element_at, big_endian, .._bits",
         Fixed = "q15_16, q31_32, exact_at",
         ParseHeader = "parse_header, data_len, aligned_..",
         IsOneText = "is_one_text, is_type_text, is_one_number",
@@ -74,7 +78,6 @@ named! {
         Told = "19, a packet that is refused and told",
         ShortQuaternions = "20, quaternions with too few bytes",
         NegativeStamp = "20, a stamp of 2^63 or more",
-        AxesValue = "21, axes out of a value that cannot be read",
     }
 }
 

@@ -1,7 +1,7 @@
 //! A row's value beside the Rust's, bit for bit: what it is called, its rows and columns, every element.
 use crate::compare::header_at;
 use crate::draw::Draw;
-use crate::library::{self, ElementAnswer, IS, KINDS, REFUSED, Row, ShapeAnswer};
+use crate::library::{self, ElementAnswer, IS, KINDS, REFUSED, Row, ShapeAnswer, Told, UNTOUCHED};
 use crate::model;
 use crate::tally::{Call, Listed, Ours, Outcome, Tally, Theirs, holds, ours, same};
 use published::plain::{Plain, ReadBack, double, single};
@@ -14,6 +14,10 @@ pub fn value(bytes: &[u8], row: Row, value: &TagValue, draw: &mut Draw, tally: &
     same("type, size and repeat", &header_at(item, 0), &row.klv())?;
     tally.call(Call::IsOneText, Theirs::Answer, Ours::Is);
     same("is_one_text", &(variant == "String"), &library::is_one_text(row.klv()))?;
+    its_bytes(bytes, row, item, tally)?;
+    if draw.chance(10) {
+        elsewhere(bytes, row)?;
+    }
     let shape = library::shape_at(bytes, place, row.type_place as usize);
     let theirs = match read {
         ReadBack::Is(_) => Theirs::Answer,
@@ -22,12 +26,10 @@ pub fn value(bytes: &[u8], row: Row, value: &TagValue, draw: &mut Draw, tally: &
     };
     tally.values += 1;
     tally.call(Call::ShapeAt, theirs, ours(shape.kind));
-    let rows = match (read, shape.kind) {
-        (_, REFUSED) if shape.number == 8 => return long_type(bytes, row, shape, tally),
-        (ReadBack::Is(rows), IS) => rows,
-        (ReadBack::Failed, REFUSED) => return same("the value's refusal", &refusal(variant, place), &shape),
-        (ReadBack::Panicked, REFUSED) => return panicked(row, shape, tally),
-        (read, _) => return Err(format!("shape_at: the Rust has {read:?}, the library {shape:?}")),
+    let rows = match (refusal(bytes, row, variant, &read, tally)?, read) {
+        (Some(number), _) => return refused(bytes, row, number, shape, draw),
+        (None, ReadBack::Is(rows)) if shape.kind == IS => rows,
+        (_, read) => return Err(format!("shape_at: the Rust has {read:?}, the library {shape:?}")),
     };
     let rows = if variant == "Vec_Scalar" { vec![rows.concat()] } else { rows };
     same("what the value is called", &called(variant, row), &KINDS[shape.value_kind as usize])?;
@@ -57,29 +59,87 @@ fn called(variant: &str, row: Row) -> &'static str {
     }
 }
 
-/// What a read that fails is refused with: texts and dates are not readable, all else has too few bytes.
-fn refusal(variant: &str, place: usize) -> ShapeAnswer {
-    let number = if variant == "Vec_String" || variant == "u64" { 7 } else { 6 };
-    ShapeAnswer { kind: REFUSED, number, place, ..Default::default() }
+// ---- refusals
+
+/// What the calls that read a value answer: its shape, an element, and the columns and the text of a row.
+fn told(s: &[u8], at: usize, type_at: usize, row: usize, column: usize) -> [Told; 4] {
+    let (shape, element) = (library::shape_at(s, at, type_at), library::element(s, at, type_at, row, column));
+    [shape.told(), element.told(), library::columns_at(s, at, type_at, row).told(), library::text_at(s, at, type_at, row).told()]
 }
 
-/// The Rust panics: at dates of fewer than 16 bytes, and where a character of more bytes lies across the border of a field.
-fn panicked(row: Row, shape: ShapeAnswer, tally: &mut Tally) -> Outcome {
-    let (klv, place) = (row.klv(), row.place as usize);
-    let number = if library::data_len(klv) < 16 { 6 } else { 7 };
-    holds(klv.data_type == b'U', || "the Rust panics at a value that is no date".into())?;
-    same("the date's refusal", &ShapeAnswer { kind: REFUSED, number, place, ..Default::default() }, &shape)?;
-    tally.listed(Listed::DatePanic);
-    Ok(())
+/// The number that a value is refused with: 8 for a TYPE over the limit; else where the Rust fails or panics 7 for texts and dates, 6 for too few bytes.
+fn refusal(bytes: &[u8], row: Row, variant: &str, read: &ReadBack, tally: &mut Tally) -> Result<Option<u32>, String> {
+    if type_characters(bytes, row) > 256 {
+        tally.listed(Listed::LongType);
+        return Ok(Some(8));
+    }
+    match read {
+        ReadBack::Is(_) => Ok(None),
+        ReadBack::Failed => Ok(Some(if variant == "Vec_String" || variant == "u64" { 7 } else { 6 })),
+        // dates of fewer than 16 bytes, and a character of more bytes that lies across the border of a field
+        ReadBack::Panicked => {
+            holds(row.klv().data_type == b'U', || "the Rust panics at a value that is no date".into())?;
+            tally.listed(Listed::DatePanic);
+            Ok(Some(if library::data_len(row.klv()) < 16 { 6 } else { 7 }))
+        }
+    }
 }
 
-fn long_type(bytes: &[u8], row: Row, shape: ShapeAnswer, tally: &mut Tally) -> Outcome {
+/// How many characters the TYPE in force expands to; none where no TYPE is.
+fn type_characters(bytes: &[u8], row: Row) -> u64 {
+    if row.type_place == library::NO_TYPE {
+        return 0;
+    }
     let at = row.type_place as usize;
     let text = &bytes[at + 8..at + 8 + model::length(bytes, at)];
-    let characters = model::expanded_length(&text[..library::latin1_len(text)]);
-    holds(characters > 256 && shape.place == row.place as usize, || format!("refused with 8 at {characters} characters: {shape:?}"))?;
-    tally.listed(Listed::LongType);
+    model::expanded_length(&text[..library::latin1_len(text)])
+}
+
+/// A value that is refused is so by every call that reads it, at whatever row and column.
+fn refused(bytes: &[u8], row: Row, number: u32, shape: ShapeAnswer, draw: &mut Draw) -> Outcome {
+    let place = row.place as usize;
+    same("the value's refusal", &ShapeAnswer { kind: REFUSED, number, place, ..Default::default() }, &shape)?;
+    for n in [0, draw.next() as usize >> draw.below(64)] {
+        same("the value's refusal by each call", &[(REFUSED, number, place); 4], &told(bytes, place, row.type_place as usize, n, n))?;
+    }
     Ok(())
+}
+
+/// The row's places in other payloads, and a structure's with a TYPE that is none.
+fn elsewhere(bytes: &[u8], row: Row) -> Outcome {
+    let (place, type_at) = (row.place as usize, row.type_place as usize);
+    let mut others = vec![
+        ("a payload over the limit", &library::LONG[..], type_at, (REFUSED, 1, 0)),
+        ("a payload that ends before the item", &bytes[..place], type_at, (REFUSED, 12, place)),
+        ("a payload that ends behind the header", &bytes[..place + 8], type_at, (REFUSED, 2, place)),
+        ("a payload of zeros", &library::LONG[..bytes.len()], type_at, (REFUSED, 12, place)),
+    ];
+    if row.klv().data_type == b'?' {
+        others.push(("a structure as its own TYPE", bytes, place, (REFUSED, 12, place)));
+    }
+    for (what, s, type_at, refusal) in others {
+        same(what, &[refusal; 4], &told(s, place, type_at, 0, 0))?;
+        same(what, &[refusal; 2], &[library::klv_at(s, place, type_at).told(), library::bytes_at(s, place, type_at).told()])?;
+    }
+    Ok(())
+}
+
+// ---- the bytes, and what is in them
+
+/// The item's header and its own payload.
+fn its_bytes(bytes: &[u8], row: Row, item: &[u8], tally: &mut Tally) -> Outcome {
+    let (place, type_at) = (row.place as usize, row.type_place as usize);
+    let headed = library::klv_at(bytes, place, type_at);
+    let part = library::bytes_at(bytes, place, type_at);
+    tally.call(Call::KlvAt, Theirs::Answer, ours(part.kind));
+    same("klv_at", &(IS, place, row.klv()), &(headed.kind, headed.place, headed.klv))?;
+    same("bytes_at", &(IS, place + 8, item.len() - 8), &(part.kind, part.start, part.length))?;
+    same("big_endian", &[big_endian(&item[..4]), big_endian(item)], &[library::big_endian(&item[..4]), library::big_endian(item)])
+}
+
+/// The number that bytes stand for: the first eight where there are more.
+fn big_endian(bytes: &[u8]) -> u64 {
+    bytes.iter().take(8).fold(0, |number, byte| number << 8 | *byte as u64)
 }
 
 struct Value<'a> {
@@ -96,6 +156,7 @@ impl Value<'_> {
                 self.columns(n, row.len(), tally)?;
             }
         }
+        self.all_at_once(tally)?;
         let all: usize = self.rows.iter().map(Vec::len).sum();
         let most = if self.shape.value_kind == 6 { 128 } else { 4096 };
         if all <= most {
@@ -119,7 +180,42 @@ impl Value<'_> {
     fn columns(&self, n: usize, expected: usize, tally: &mut Tally) -> Outcome {
         let answer = library::columns_at(self.bytes, self.row.place as usize, self.row.type_place as usize, n);
         tally.call(Call::ColumnsAt, Theirs::Answer, ours(answer.kind));
-        same("columns_at", &(IS, expected as u64), &(answer.kind, answer.value))
+        same("columns_at", &(IS, expected as u64), &(answer.kind, answer.value))?;
+        let is_text = matches!(KINDS[self.shape.value_kind as usize], "text" | "texts");
+        if is_text || n == 0 { self.text(n, is_text, tally) } else { Ok(()) }
+    }
+
+    /// The part that a row's text is; 13 where the value is no text.
+    fn text(&self, n: usize, is_text: bool, tally: &mut Tally) -> Outcome {
+        let (place, klv) = (self.row.place as usize, self.row.klv());
+        let part = library::text_at(self.bytes, place, self.row.type_place as usize, n);
+        tally.call(Call::TextAt, if is_text { Theirs::Answer } else { Theirs::Outside }, ours(part.kind));
+        if !is_text {
+            return same("text_at where there is no text", &(REFUSED, 13, place), &part.told());
+        }
+        let start = place + 8 + n * klv.size as usize;
+        same("text_at", &(IS, start, self.rows[n].len()), &(part.kind, part.start, part.length))?;
+        let letters: Vec<Plain> = self.bytes[start..start + part.length].iter().map(|byte| Plain::Unsigned(*byte as u64)).collect();
+        same("a text's bytes", &self.rows[n], &letters)
+    }
+
+    /// All elements in one call, with a number more than there are, which stays; with one less, none is laid.
+    fn all_at_once(&self, tally: &mut Tally) -> Outcome {
+        let expected: Vec<u64> = self.rows.iter().flatten().map(bits).chain([UNTOUCHED as u64]).collect();
+        let (place, type_at, count) = (self.row.place as usize, self.row.type_place as usize, expected.len() - 1);
+        let mut numbers = vec![UNTOUCHED as u64; count + 1];
+        let answer = library::elements_at(self.bytes, place, type_at, &mut numbers);
+        tally.call(Call::ElementsAt, Theirs::Answer, ours(answer.kind));
+        same("elements_at, how many", &(IS, count as u64), &(answer.kind, answer.value))?;
+        same("elements_at", &expected, &numbers)?;
+        if count == 0 {
+            return Ok(());
+        }
+        let mut short = vec![UNTOUCHED as u64; count - 1];
+        let refused = library::elements_at(self.bytes, place, type_at, &mut short);
+        tally.call(Call::ElementsAt, Theirs::Outside, ours(refused.kind));
+        same("elements_at without room", &(REFUSED, 5, place), &(refused.kind, refused.number, refused.place))?;
+        holds(short.iter().all(|&n| n == UNTOUCHED as u64), || "elements_at without room wrote".into())
     }
 
     fn element(&self, n: usize, c: usize, tally: &mut Tally) -> Outcome {
@@ -148,7 +244,10 @@ impl Value<'_> {
         }
         tally.call(Call::ElementAt, Theirs::Answer, Ours::Is);
         same("element_at", &self.rows[n][c], &library::element_at(self.bytes, at, letter).plain())?;
+        same("big_endian", &big_endian(raw), &library::big_endian(raw))?;
         match letter {
+            b'f' => same("single_bits", &self.rows[n][c], &Plain::Single(library::single_bits(f32::from_bits(whole(raw, 0))))),
+            b'd' => same("double_bits", &self.rows[n][c], &Plain::Double(library::double_bits(f64::from_bits(big_endian(raw))))),
             b'q' => fixed(self.rows[n][c], single(library::q15_16(half(raw, 0) as i16, half(raw, 2))), tally),
             b'Q' => {
                 let (high, low) = (whole(raw, 0) as i32, whole(raw, 4));
@@ -164,16 +263,14 @@ impl Value<'_> {
     fn outside(&self, draw: &mut Draw, tally: &mut Tally) -> Outcome {
         let (place, type_at, more) = (self.row.place as usize, self.row.type_place as usize, draw.next() as usize >> draw.below(64));
         let refused = (REFUSED, 13, place);
-        let below = library::element(self.bytes, place, type_at, self.shape.rows.saturating_add(more), 0);
+        let below = told(self.bytes, place, type_at, self.shape.rows.saturating_add(more), 0);
         let beside = library::element(self.bytes, place, type_at, 0, self.shape.columns.saturating_add(more));
-        let columns = library::columns_at(self.bytes, place, type_at, self.shape.rows.saturating_add(more));
         for _ in 0..2 {
             tally.call(Call::Element, Theirs::Outside, Ours::Refused);
         }
         tally.call(Call::ColumnsAt, Theirs::Outside, Ours::Refused);
-        same("an element below the value", &refused, &(below.kind, below.number, below.place))?;
-        same("an element beside the value", &refused, &(beside.kind, beside.number, beside.place))?;
-        same("columns below the value", &refused, &(columns.kind, columns.number, columns.place))
+        same("an element, columns and a text below the value", &[refused; 3], &[below[1], below[2], below[3]])?;
+        same("an element beside the value", &refused, &beside.told())
     }
 }
 
@@ -189,11 +286,20 @@ fn fixed(theirs: Plain, ours: Plain, tally: &mut Tally) -> Outcome {
     same("a fixed-point number", &theirs, &ours)
 }
 
+/// An element as one number.
+fn bits(element: &Plain) -> u64 {
+    match *element {
+        Plain::Signed(x) => x as u64,
+        Plain::Unsigned(x) | Plain::Double(x) => x,
+        Plain::Single(x) => x as u64,
+    }
+}
+
 /// Whether an element is a NaN whose bits in the payload, which the Rust keeps, are not the library's.
 fn is_other_nan(letter: u8, raw: &[u8], answer: ElementAnswer) -> bool {
     match letter {
         b'f' => answer.element.single_value.is_nan() && answer.element.single_value.to_bits() != whole(raw, 0),
-        b'd' => answer.element.double_value.is_nan() && answer.element.double_value.to_bits() != (whole(raw, 0) as u64) << 32 | whole(raw, 4) as u64,
+        b'd' => answer.element.double_value.is_nan() && answer.element.double_value.to_bits() != big_endian(raw),
         _ => false,
     }
 }
