@@ -1,23 +1,28 @@
-//! How the times grow: from 1 to 1,000 packets, and from 1 to 16 containers, one in the other.
+//! How the times grow: from 1 to 1,000 packets, from 64 to 4,096 items, and from 1 to 16 containers, one in the other.
 use crate::cut;
-use crate::inputs::{Take, nested};
+use crate::inputs::{Take, items, nested};
 use crate::table::{head, number, row};
 use crate::timing::{Times, alternate, whole};
 use crate::values::Both;
-use crate::walk::{self, NUMBERS};
+use crate::walk::{self, MOST_NUMBERS};
 
 const PACKETS: [usize; 4] = [1, 10, 100, 1000];
+const ITEMS: [usize; 4] = [64, 128, 129, 4096];
 const LEVELS: [usize; 5] = [1, 2, 4, 8, 16];
 
-/// Our walk and the Rust's, in nanoseconds for a payload.
+/// Our walk and the Rust's, in nanoseconds for a payload that both accept.
 fn walk_times(payloads: &[&[u8]]) -> [f64; 2] {
     walk::check(payloads);
-    let mut rows = vec![0; NUMBERS];
+    unchecked_times(payloads)
+}
+
+fn unchecked_times(payloads: &[&[u8]]) -> [f64; 2] {
+    let mut rows = vec![0; MOST_NUMBERS];
     alternate(payloads.len(), [&mut whole(|| walk::ours(payloads, &mut rows)), &mut whole(|| walk::theirs(payloads))]).map(best)
 }
 
-/// Our two ways to read all values and the Rust's, in nanoseconds for an element.
-fn value_times(payloads: &[&[u8]]) -> [f64; 3] {
+/// Our three ways to read all values and the Rust's, in nanoseconds for an element.
+fn value_times(payloads: &[&[u8]]) -> [f64; 4] {
     Both::of(payloads).times().map(best)
 }
 
@@ -50,9 +55,27 @@ fn print_packets(all: &Take) {
     );
     head(&["What", "1 packet", "10", "100", "1,000", "1,000 over 1"]);
     print_rows(["our walk, a packet", "the Rust's walk, a packet"], &takes.each_ref().map(|take| walk_times(&take.payloads())));
-    let names = ["our `gpmf_element`, an element", "our `gpmf_element_at`, an element", "the Rust's values, an element"];
+    let names = ["our `gpmf_element`, an element", "our `gpmf_element_at`, an element", "our `gpmf_elements_at`, an element", "the Rust's values, an element"];
     print_rows(names, &takes.each_ref().map(|take| value_times(&take.payloads())));
     print_rows(["our cutting, 1,000 bytes", "memmem, 1,000 bytes"], &takes.each_ref().map(|take| cut_times(&take.file)));
+}
+
+fn print_items() {
+    println!(
+        "\n**From 64 to 4,096 items** of 30 numbers, one behind the other: best rounds, in ns for an item. A payload of more than 128 rows is walked up to row 129 and then \
+         read in two passes; one that is refused, here since its last byte is not there, is walked twice."
+    );
+    head(&["What", "64 items", "128", "129", "4,096", "4,096 over 64"]);
+    let payloads = ITEMS.map(items);
+    let each = |n: usize, times: [f64; 2]| times.map(|time| time / ITEMS[n] as f64);
+    let accepted: Vec<_> = payloads.iter().enumerate().map(|(n, payload)| each(n, walk_times(&[payload]))).collect();
+    print_rows(["our walk, an item", "the Rust's walk, an item"], &accepted);
+    let refused = payloads.iter().enumerate().map(|(n, payload)| {
+        let cut = &payload[..payload.len() - 1];
+        walk::check_refused(cut);
+        each(n, unchecked_times(&[cut]))
+    });
+    print_rows(["our walk of one that is refused", "the Rust's walk of one that is refused"], &refused.collect::<Vec<_>>());
 }
 
 /// What a level more costs: from the first size to the last but one, and from there to the last.
@@ -71,10 +94,12 @@ fn print_levels() {
     let reads = payloads.each_ref().map(|payload| value_times(&[payload]));
     print_slopes("our `gpmf_element`, an element", &reads.map(|times| times[0]));
     print_slopes("our `gpmf_element_at`, an element", &reads.map(|times| times[1]));
-    print_slopes("the Rust's values, an element", &reads.map(|times| times[2]));
+    print_slopes("our `gpmf_elements_at`, an element", &reads.map(|times| times[2]));
+    print_slopes("the Rust's values, an element", &reads.map(|times| times[3]));
 }
 
 pub fn print(all: &Take) {
     print_packets(all);
+    print_items();
     print_levels();
 }

@@ -1,4 +1,4 @@
-//! What is read: a take, payloads of nested containers, and files that are hard to search.
+//! What is read: a take, payloads of many items and of nested containers, and files that are hard to search.
 use published::gopro::klv::probe;
 
 /// A raw file, and where its packets lie.
@@ -34,15 +34,17 @@ impl Take {
     }
 }
 
-// ---- nested containers
+// ---- items, and nested containers
 
-/// The items inside the innermost container: each with a key of its own.
-const ITEMS: u8 = 64;
+/// An item of ten readings of three numbers, with a key of its own.
+fn item(n: usize) -> Vec<u8> {
+    let key = [b'K', b'0' + (n / 256) as u8, b'0' + (n / 16 % 16) as u8, b'A' + (n % 16) as u8];
+    [&key[..], b"s\x06\0\x0a", &[n as u8; 60]].concat()
+}
 
-/// An item of ten readings of three numbers.
-fn item(n: u8) -> Vec<u8> {
-    let key = [b'K', b'0' + n / 16, b'A' + n % 16, b'X'];
-    [&key[..], b"s\x06\0\x0a", &[n; 60]].concat()
+/// So many items, up to 4,096, one behind the other.
+pub fn items(count: usize) -> Vec<u8> {
+    (0..count).flat_map(item).collect()
 }
 
 fn container(inside: Vec<u8>) -> Vec<u8> {
@@ -50,9 +52,9 @@ fn container(inside: Vec<u8>) -> Vec<u8> {
     [&b"STRM\0\x04"[..], &repeat.to_be_bytes(), &inside].concat()
 }
 
-/// So many containers round the items, one in the other.
+/// So many containers round 64 items, one in the other.
 pub fn nested(levels: usize) -> Vec<u8> {
-    (0..levels).fold((0..ITEMS).flat_map(item).collect(), |inside, _| container(inside))
+    (0..levels).fold(items(64), |inside, _| container(inside))
 }
 
 // ---- files that are hard to search
@@ -89,6 +91,7 @@ pub fn hard_files() -> Vec<(&'static str, Vec<u8>)> {
         ("`DEV`, over and over", over_and_over(b"DEV")),
         ("`D--C`, over and over", over_and_over(b"D--C")),
         ("`DDDCCC`, over and over: at every second place a `D` with a `C` three behind", over_and_over(b"DDDCCC")),
+        ("`D--C-EV-`, over and over: no filter of ours passes a block of it", over_and_over(b"D--C-EV-")),
         ("`DEVCxxxx`, over and over", over_and_over(b"DEVCxxxx")),
         ("`DEVC` at each distance of 4 to 512, `D--C` between", all_distances()),
     ]

@@ -7,6 +7,8 @@ mod inputs;
 #[allow(dead_code)] // few of the calls are timed
 mod library;
 mod memory;
+#[path = "../oracle/src/bin/beside/parted.rs"]
+mod parted;
 mod table;
 mod timing;
 mod values;

@@ -2,34 +2,15 @@
 """make_take.py SECONDS: a raw file on standard output, a packet for each second, laid out as a camera of the HERO10 kind does it.
 
 The take is made up; every number follows from what stands here."""
+import pathlib
 import random
-import struct
 import sys
 
+sys.dont_write_bytecode = True  # nothing is left in samples/
+sys.path.insert(0, str(pathlib.Path(__file__).resolve().parent.parent / "samples"))
+from make import container, numbers, text  # noqa: E402
+
 SEED = 1
-LETTERS = {"b": "b", "B": "B", "s": "h", "S": "H", "l": "i", "L": "I", "f": "f", "J": "Q"}
-
-
-# ---- items
-
-def item(key, letter, size, repeat, payload):
-    assert size * repeat == len(payload), key
-    return key.encode() + letter.encode() + struct.pack(">BH", size, repeat) + payload + bytes(-len(payload) % 4)
-
-
-def numbers(key, letter, columns, values):
-    payload = struct.pack(f">{len(values)}{LETTERS[letter]}", *values)
-    return item(key, letter, columns * struct.calcsize(">" + LETTERS[letter]), len(values) // columns, payload)
-
-
-def text(key, letters):
-    return item(key, "c", 1, len(letters), letters.encode("latin-1"))
-
-
-def container(key, *parts):
-    """A size of 4, so that the length of a whole packet can be written."""
-    inside = b"".join(parts)
-    return item(key, "\0", 4, len(inside) // 4, inside)
 
 
 def scale(*divisors):
@@ -54,7 +35,7 @@ class Camera:
         values = [self.between(low, high) for _ in range(count * columns)]
         readings = numbers(key, letter, columns, values if letter == "f" else [int(value) for value in values])
         stamp = numbers("STMP", "J", 1, [second * 1_001_000 + int(self.between(0, 900))])
-        return container("STRM", stamp, numbers("TSMP", "L", 1, [total]), text("STNM", name), *about, readings)
+        return container("STRM", stamp, numbers("TSMP", "L", 1, [total]), text("STNM", name), *about, readings, size=4)
 
     def packet(self, second):
         axes = (numbers("MTRX", "f", 9, [0, 1, 0, 0, 0, -1, 1, 0, 0]), text("ORIN", "YxZ"), text("ORIO", "ZXY"))
@@ -76,7 +57,7 @@ class Camera:
             ("GPS (Lat., Long., Alt., 2D speed, 3D speed)", "GPS5", "l", 5, 18, -900000000, 900000000, gps_scale),
         )
         device = (numbers("DVID", "L", 1, [1]), text("DVNM", "Hero10 Black"))
-        return container("DEVC", *device, *(self.stream(second, *stream) for stream in streams))
+        return container("DEVC", *device, *(self.stream(second, *stream) for stream in streams), size=4)
 
 
 def main():

@@ -4,7 +4,7 @@ use crate::heap::{Heap, counted};
 use crate::inputs::Take;
 use crate::library::{self, IS, MORE};
 use crate::table::{count, head, row};
-use crate::values::Both;
+use crate::values::{Both, ELEMENTS};
 use crate::walk::{self, NUMBERS, map_of};
 use std::io::Read;
 
@@ -82,8 +82,9 @@ pub fn print(all: &Take, path: &str) {
     print_peaks(path, payloads.len());
     println!("\n**The heap**, counted by the allocator:");
     head(&["What", "Allocations", "Bytes", "Most held at one time", "Held behind it"]);
-    let (both, mut rows) = (Both::of(&payloads), vec![0; NUMBERS]);
-    let ours = counted(|| (walk::ours(&payloads, &mut rows), both.ours_by_place(), both.ours_by_bytes(), cut::ours(&all.file))).1;
+    let (both, mut rows, mut numbers) = (Both::of(&payloads), vec![0; NUMBERS], vec![0; ELEMENTS]);
+    let ours =
+        counted(|| (walk::ours(&payloads, &mut rows), both.ours_by_place(), both.ours_by_bytes(), both.ours_at_once(&mut numbers), cut::ours(&all.file))).1;
     print_heap(&format!("our walk, values and cutting of {} packets", count(payloads.len())), ours);
     for packets in [1, payloads.len()] {
         let (some, number) = (&payloads[..packets], count(packets));

@@ -1,11 +1,10 @@
 //! Markdown.
+use crate::parted::parted;
 use crate::timing::Times;
 
-/// A whole number with its thousands parted.
+/// A count, with its thousands parted.
 pub fn count(n: usize) -> String {
-    let digits = n.to_string();
-    let parts: Vec<&str> = digits.as_bytes().rchunks(3).rev().map(|part| std::str::from_utf8(part).expect("digits")).collect();
-    parts.join(",")
+    parted(n as u64)
 }
 
 /// A number of nanoseconds or a ratio: whole from 100 on, else with one or two places.

@@ -63,7 +63,7 @@ impl Value<'_> {
 
     /// By `gpmf_bytes_at`, once, and `gpmf_element_at` on these bytes; a text's bytes are numbers of the letter B.
     fn by_bytes(&self, mut each: impl FnMut(&NumberRecord)) {
-        let part = bytes_at(self.payload, self.row.place as usize, self.row.type_place as usize);
+        let part = library::bytes_at(self.payload, self.row.place as usize, self.row.type_place as usize);
         let bytes = &self.payload[part.start..part.start + part.length];
         let letter = if self.shape.value_kind == TEXT { b'B' } else { self.row.klv().data_type };
         let (width, columns) = (library::width(letter), self.shape.columns);
@@ -75,20 +75,28 @@ impl Value<'_> {
     }
 }
 
-#[repr(C)]
-struct PartAnswer {
-    kind: u32,
-    number: u32,
-    place: usize,
-    start: usize,
-    length: usize,
+/// The numbers that are lent for a value's elements.
+pub const ELEMENTS: usize = 65_536;
+
+impl Walked<'_> {
+    /// By `gpmf_elements_at`: each row's value at once, into the same lent numbers.
+    fn at_once(&self, numbers: &mut [u64], mut each: impl FnMut(&[u64], &Row)) {
+        for n in 0..self.count {
+            let row = library::row_at(&self.rows, n).row;
+            let count = library::elements_at(self.payload, row.place as usize, row.type_place as usize, numbers).value as usize;
+            each(&numbers[..count], &row);
+        }
+    }
 }
 
-fn bytes_at(payload: &[u8], at: usize, type_at: usize) -> PartAnswer {
-    unsafe extern "C" {
-        fn gpmf_bytes_at(s: *const u8, s_len: usize, at: usize, type_at: usize) -> PartAnswer;
+/// An element's form, by its type: of the letters and texts in the take.
+fn formed(bits: u64, row: &Row) -> Plain {
+    match row.klv().data_type {
+        b'b' | b's' | b'l' | b'j' => Plain::Signed(bits as i64),
+        b'f' | b'q' => Plain::Single(bits as u32),
+        b'd' | b'Q' => Plain::Double(bits),
+        _ => Plain::Unsigned(bits),
     }
-    unsafe { gpmf_bytes_at(payload.as_ptr(), payload.len(), at, type_at) }
 }
 
 // ---- the Rust's
@@ -119,9 +127,13 @@ impl Sum {
     }
 }
 
-/// How many elements all values have: the same by all three ways to read them.
+/// How many elements all values have: the same by all four ways to read them.
 fn check(walked: &[Walked], maps: &[GroupedTagMap]) -> usize {
-    let [mut by_place, mut by_bytes, mut theirs] = [Sum::default(), Sum::default(), Sum::default()];
+    let [mut by_place, mut by_bytes, mut at_once, mut theirs] = [Sum::default(), Sum::default(), Sum::default(), Sum::default()];
+    let mut numbers = vec![0; ELEMENTS];
+    for one in walked {
+        one.at_once(&mut numbers, |all, row| all.iter().for_each(|&bits| at_once.add(formed(bits, row))));
+    }
     for value in walked.iter().flat_map(Walked::values) {
         value.by_place(|element| by_place.add(element.plain()));
         value.by_bytes(|element| by_bytes.add(element.plain()));
@@ -130,7 +142,7 @@ fn check(walked: &[Walked], maps: &[GroupedTagMap]) -> usize {
         let ReadBack::Is(rows) = probe_rows(value).2 else { panic!("the Rust cannot read a value") };
         rows.concat().into_iter().for_each(|element| theirs.add(element));
     }
-    assert_eq!((&by_place, &by_bytes), (&theirs, &theirs), "what is compared must be the same values");
+    assert_eq!((&by_place, &by_bytes, &at_once), (&theirs, &theirs, &theirs), "what is compared must be the same values");
     theirs.elements
 }
 
@@ -155,14 +167,26 @@ impl<'a> Both<'a> {
     pub fn ours_by_bytes(&self) {
         self.walked.iter().flat_map(Walked::values).for_each(|value| value.by_bytes(keep));
     }
+    pub fn ours_at_once(&self, numbers: &mut [u64]) {
+        self.walked.iter().for_each(|one| one.at_once(numbers, |all, _| _ = black_box(all)));
+    }
     /// Each value by its own parse function, as the first `get` calls it.
     pub fn theirs(&self) {
         self.maps.iter().flat_map(values_of).for_each(probe_read);
     }
 
-    /// Our two ways and the Rust's, for an element.
-    pub fn times(&self) -> [Times; 3] {
-        alternate(self.elements, [&mut whole(|| self.ours_by_place()), &mut whole(|| self.ours_by_bytes()), &mut whole(|| self.theirs())])
+    /// Our three ways and the Rust's, for an element.
+    pub fn times(&self) -> [Times; 4] {
+        let mut numbers = vec![0; ELEMENTS];
+        alternate(
+            self.elements,
+            [
+                &mut whole(|| self.ours_by_place()),
+                &mut whole(|| self.ours_by_bytes()),
+                &mut whole(|| self.ours_at_once(&mut numbers)),
+                &mut whole(|| self.theirs()),
+            ],
+        )
     }
 }
 
@@ -172,11 +196,14 @@ fn keep(element: &NumberRecord) {
 
 pub fn print(take: &Take) {
     let both = Both::of(&take.payloads());
-    let [place, bytes, rust] = both.times();
+    let [place, bytes, at_once, rust] = both.times();
     let heap = counted(|| both.theirs()).1.over(both.maps.len());
     let size = format!("{} elements of {} packets", count(both.elements), count(both.maps.len()));
-    println!("\n**All values**: {size}; the unit is an element. The walk is not counted on either side. Our calls are lent nothing to write. {heap}");
+    println!(
+        "\n**All values**: {size}; the unit is an element. The walk is not counted on either side. `gpmf_elements_at` is lent 65,536 numbers, which are not cleared before a call; our other calls are lent nothing to write. {heap}"
+    );
     head_of_ratios("The Rust");
     ratio("`gpmf_row_at` and `gpmf_shape_at` of each row, `gpmf_element` of each element", place, rust, &[3.]);
     ratio("`gpmf_row_at`, `gpmf_shape_at` and `gpmf_bytes_at` of each row, `gpmf_element_at` of each element", bytes, rust, &[3.]);
+    ratio("`gpmf_row_at` and `gpmf_elements_at` of each row", at_once, rust, &[3.]);
 }

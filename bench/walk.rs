@@ -1,7 +1,7 @@
 //! The walk of each packet: `gpmf_parse_metadata` beside `GoPro::parse_metadata`.
 use crate::heap::counted;
 use crate::inputs::Take;
-use crate::library::{self, IS};
+use crate::library::{self, IS, MOST_ROWS, REFUSED};
 use crate::table::{count, head_of_ratios, ratio};
 use crate::timing::{alternate, whole};
 use published::gopro::GoPro;
@@ -12,18 +12,26 @@ use std::time::{Duration, Instant};
 /// The lent numbers: as many as the programs lend.
 pub const NUMBERS: usize = 16_384;
 
+/// As many as a payload's rows can take.
+pub const MOST_NUMBERS: usize = MOST_ROWS * 8;
+
 /// All rows go into the same numbers, which nobody clears between.
 pub fn ours(payloads: &[&[u8]], rows: &mut [u32]) -> usize {
     payloads.iter().map(|payload| library::parse_metadata(black_box(payload), false, black_box(rows)).rows).sum()
 }
 
+/// The Rust's map; none where it refuses the payload.
+fn read(payload: &[u8]) -> Option<GroupedTagMap> {
+    GoPro::parse_metadata(payload, GroupId::Default, false, &Default::default()).ok()
+}
+
 pub fn map_of(payload: &[u8]) -> GroupedTagMap {
-    GoPro::parse_metadata(payload, GroupId::Default, false, &Default::default()).expect("a payload that is accepted")
+    read(payload).expect("a payload that is accepted")
 }
 
 /// Each map is dropped when it has been made.
 pub fn theirs(payloads: &[&[u8]]) {
-    payloads.iter().for_each(|payload| drop(black_box(map_of(black_box(payload)))));
+    payloads.iter().for_each(|payload| drop(black_box(read(black_box(payload)))));
 }
 
 /// The same; the time of the drops is returned.
@@ -37,9 +45,15 @@ fn drops(payloads: &[&[u8]]) -> Duration {
     payloads.iter().map(dropped).sum()
 }
 
+/// Both refuse a payload, since an item runs past its end.
+pub fn check_refused(payload: &[u8]) {
+    let answer = library::parse_metadata(payload, false, &mut vec![0; MOST_NUMBERS]);
+    assert_eq!((answer.kind, answer.number, read(payload).is_some()), (REFUSED, 2, false), "what is compared must be the same refusal");
+}
+
 /// Both accept each payload, and have as many rows as entries.
 pub fn check(payloads: &[&[u8]]) -> usize {
-    let mut rows = vec![0; NUMBERS];
+    let mut rows = vec![0; MOST_NUMBERS];
     let rows_of = |payload: &&[u8]| {
         let answer = library::parse_metadata(payload, false, &mut rows);
         let entries: usize = map_of(payload).values().map(|tags| tags.len()).sum();
