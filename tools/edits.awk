@@ -1,4 +1,4 @@
-# Reads must-fail edits (crates/NAME/must-fail/LABEL.edit) as rt does and prints what is wrong with each, without proving anything:
+# Reads must-fail edits (crates/NAME/must-fail/LABEL.edit, and crates/NAME/further-edits) as rt does and prints what is wrong with each, without proving anything:
 # a file that is not there or is a proof (a broken proof shows nothing), an `old:` text that does not stand in it exactly once or is not changed,
 # no pair at all, and a line that rt passes over though it is no comment, as the second line of a text.
 
@@ -24,7 +24,7 @@ function replace(    at, behind) {
 
 FNR == 1 {
     crate = FILENAME
-    sub(/must-fail\/.*/, "", crate)
+    sub(/(must-fail|further-edits)\/.*/, "", crate)
     file = old = ""
     split("", text)
 }

@@ -2,7 +2,7 @@
 # for a function that is not there, an empty cell, a line that does not name two must-fail edits and a theorem of one answer that are there.
 # The section `## gpmf` has a line for each exported function, or the word `none`, with the call that it is and how its answer is told; each other public call stands there once,
 # but for those of `answers` and `value_answers`, which tell.
-# Reads lines `crate NAME`, `call CRATE FUNCTION`, `edit CRATE LABEL` and `theorem NAME`, then the document (-v document=..): a section `## CRATE` for each crate, and
+# Reads lines `crate NAME`, `call CRATE FUNCTION`, `edit CRATE LABEL`, `further CRATE LABEL` (an edit that the gate leaves out) and `theorem NAME`, then the document (-v document=..): a section `## CRATE` for each crate, and
 # in it a table of calls | definition | promise | one answer | must-fail edits | runs.
 
 function fault(message) { print "docs/PROMISES.md: " message }
@@ -15,7 +15,7 @@ function name_in(cell) {
     return cell
 }
 
-# How many edits of its own crate a cell names; one that is not there, there or in another crate (`CRATE/LABEL`), is a fault.
+# How many edits of its own crate a cell names that the gate tries; one that is not there, there or in another crate (`CRATE/LABEL`), is a fault.
 function edits_in(cell,    part, n, i, count, of, label) {
     n = split(cell, part, "`")
     for (i = 2; i <= n; i += 2) {
@@ -23,7 +23,7 @@ function edits_in(cell,    part, n, i, count, of, label) {
         label = part[i]
         if (split(part[i], path, "/") == 2) { of = path[1]; label = path[2] }
         if (("edit " of " " label) in there) count += of == section
-        else fault("there is no crates/" of "/must-fail/" label ".edit, which `" call "` names")
+        else if (!(("further " of " " label) in there)) fault("there is no crates/" of "/must-fail/" label ".edit, which `" call "` names")
     }
     return count
 }
