@@ -43,8 +43,8 @@ use Rattle.tagged.specs.declared.Tagged.{Tagged}
 use Rattle.tagged.specs.declared.Tagged.the-variants as tagged
 use Rattle.values.specs.declared.Headed.{Headed}
 use Rattle.values.specs.declared.Headed.the-variants as headed
-use Rattle.view.specs.declared.Part.{Part}
-use Rattle.view.specs.declared.Part.the-variants as part-of
+use Rattle.parts.specs.declared.Part.{Part}
+use Rattle.parts.specs.declared.Part.the-variants as part-of
 use Rattle.value.specs.declared.Columns.{Columns}
 use Rattle.value.specs.declared.Columns.the-variants as columns
 use Rattle.all_elements.specs.declared.Elements.{Elements}

@@ -7,6 +7,7 @@ use klv::Header;
 use klv::KLV;
 use last_item::LastItem;
 use metadata::Metadata;
+use parts::Part;
 use raw_file::InWindow;
 use raw_file::NextPacket;
 use raw_file::Packet;
@@ -19,7 +20,6 @@ use stamps::Stamp;
 use tagged::Tagged;
 use value::Columns;
 use values::Headed;
-use view::Part;
 ghost use mathlib.Core.Path.{_≡_};
 ghost use Rattle.answers.specs.Answers as tells;
 

@@ -7,7 +7,7 @@ use value_answers::ShapeAnswer;
 ghost use mathlib.Core.Path.{_≡_};
 ghost use Rattle.items.specs.At.{foundAt};
 ghost use Rattle.values.specs.At.{klvOfFound, elementOfFound, shapeOfFound, columnsOfFound};
-ghost use Rattle.view.specs.Parts.{bytesOfFound, textOfFound};
+ghost use Rattle.parts.specs.Parts.{bytesOfFound, textOfFound};
 ghost use Rattle.gpmf.specs.Lent.{ElementsAs};
 ghost use Rattle.answers.specs.Answers.{ofHeaded, ofColumns, ofPart};
 ghost use Rattle.value_answers.specs.Answers.{ofRead, ofShaped};
@@ -55,7 +55,7 @@ pub extern "C" fn gpmf_klv_at(s: &[u8], at: usize, type_at: usize) -> ItemAnswer
 pub extern "C" fn gpmf_bytes_at(s: &[u8], at: usize, type_at: usize) -> PartAnswer
     ensures { λ r. ⌜ r ≡ ofPart (bytesOfFound (foundAt (now (s .entry)) at «type_at») at) ⌝ }
 {
-    answers::of_part(view::bytes_at(s, at, type_at))
+    answers::of_part(parts::bytes_at(s, at, type_at))
 }
 
 // Which part of the bytes the text of a row is.
@@ -63,7 +63,7 @@ pub extern "C" fn gpmf_bytes_at(s: &[u8], at: usize, type_at: usize) -> PartAnsw
 pub extern "C" fn gpmf_text_at(s: &[u8], at: usize, type_at: usize, row: usize) -> PartAnswer
     ensures { λ r. ⌜ r ≡ ofPart (textOfFound (foundAt (now (s .entry)) at «type_at») at row) ⌝ }
 {
-    answers::of_part(view::text_at(s, at, type_at, row))
+    answers::of_part(parts::text_at(s, at, type_at, row))
 }
 
 // All elements of the value, by their bits, into the lent numbers.

@@ -29,8 +29,9 @@ use Rattle.value.specs.declared.Grid.{Grid}
 use Rattle.value.specs.Value.{Value, Outcome, readable, refused, placed, gridded, unknown, texts, dated, widthsOf, structured, structures, reading, planOf, valueBy, valueOf}
 use Rattle.items.specs.At.{found, foundAt}
 use Rattle.view.specs.declared.View.{View}
-use Rattle.view.specs.Parts.{foundIn, bytesOfFound, cut}
-use Rattle.view.proofs.Found.{bytes-are}
+use Rattle.view.specs.View.{foundIn}
+use Rattle.parts.specs.Parts.{bytesOfFound, cut}
+use Rattle.parts.proofs.Found.{bytes-are}
 use Rattle.newer_camera.specs.OldReader.{textFor}
 use Rattle.newer_camera.proofs.Value.{found-there}
 

@@ -24,8 +24,8 @@ use Rattle.value.specs.declared.Grid.{Grid}
 use Rattle.value.specs.declared.Plan.{Plan}
 use Rattle.value.specs.declared.Plan.the-variants as plan
 use Rattle.value.specs.Value.{Value, Outcome, readable, refused, gridded, numbers, quaternions, text, identifier, unknown, textOf, dated, reading, widthsOf, structured, structures, isQuaternions, kindOf, letterPlan, planOf, valueBy, valueOf}
-use Rattle.view.specs.Parts.{RowText, none, rowText}
-use Rattle.view.specs.Parts as Parts
+use Rattle.parts.specs.Parts.{RowText, none, rowText}
+use Rattle.parts.specs.Parts as Parts
 
 abbrev pub isText : Kind → Bool
 isText kind.Single = false

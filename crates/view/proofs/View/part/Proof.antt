@@ -35,16 +35,16 @@ use denote.Triple.Table.{entered, cited}
 use denote.Triple.Walked.{says, Stays, stay-none, walkOf, goes-none, ends-at, walked, walk-meets}
 use denote.Exit.{yes}
 use denote.Triple.Clauses.{ensured, lasts}
-use Rattle.view.specs.declared.Part.{Part}
+use Rattle.parts.specs.declared.Part.{Part}
 use Rattle.view.specs.declared.View.{View}
-use Rattle.view.specs.Parts.{cut}
+use Rattle.parts.specs.Parts.{cut}
 use Rattle.view.proofs.Held.{B, D, L, mach, slice, Own, SliceOwn, apart}
-use Rattle.view.proofs.Part as P
-use Rattle.view.proofs.Part.Laws as P′
+use Rattle.parts.proofs.Part as P
+use Rattle.parts.proofs.Part.Laws as P′
 use Rattle.view.proofs.View.Laws as T′
-use Rattle.view.proofs.part_of as callee
-use Rattle.view.proofs.part_of.Symbol as callee-def
-use Rattle.view.proofs.part_of.Met as callee-thm
+use Rattle.parts.proofs.part_of as callee
+use Rattle.parts.proofs.part_of.Symbol as callee-def
+use Rattle.parts.proofs.part_of.Met as callee-thm
 use Rattle.view.proofs.View.part.Key.{name}
 use Rattle.view.proofs.View.part as part
 use Rattle.view.proofs.View.part.Statement.{statement}
@@ -129,4 +129,4 @@ part-spec 𝓤 H 𝓜 𝓖 𝓡 =
     entered 𝓤 H (tripleOf 𝓤 H (𝓖 .A) part.signature (part.spec 𝓤 H (𝓖 .A) (𝓜 .mem) (𝓡 .run)))
     (tables 𝓤 H 𝓜 𝓡 code.env .C) (tables 𝓤 H 𝓜 𝓡 code.env .Λ) name code.function (code.unfolded 𝓤 H 𝓜 𝓡)
     (part-meets 𝓤 H (𝓖 .A) (givenOf 𝓤 H 𝓜 𝓖) (𝓜 .mem) (𝓡 .run) (tablesOf 𝓤 H 𝓜 (tables 𝓤 H 𝓜 𝓡 code.env))
-    (cited 𝓤 H (Cut 𝓤 H (𝓖 .A) (𝓜 .mem) (𝓡 .run)) 𝓜 𝓡 code.env callee-def.name callee-def.routine code.calls-view·part-of (callee-thm.met 𝓤 H 𝓜 𝓖 𝓡)))
+    (cited 𝓤 H (Cut 𝓤 H (𝓖 .A) (𝓜 .mem) (𝓡 .run)) 𝓜 𝓡 code.env callee-def.name callee-def.routine code.calls-parts·part-of (callee-thm.met 𝓤 H 𝓜 𝓖 𝓡)))

@@ -1,10 +1,10 @@
 -- `part_of` meets its contract. Assumes nothing.
 use mathlib.Core.Path.{sym, ap, _∙_}
 use borrow.Author.Needs.{needs}
-use Rattle.view.specs.declared.Part.{Part}
-use Rattle.view.specs.Parts.{cut}
-use Rattle.view.proofs.part_of.Statement.{statement}
-use Rattle.view.proofs.part_of.Tie as tie
+use Rattle.parts.specs.declared.Part.{Part}
+use Rattle.parts.specs.Parts.{cut}
+use Rattle.parts.proofs.part_of.Statement.{statement}
+use Rattle.parts.proofs.part_of.Tie as tie
 
 enum-told : tie.Need-enum-told
 enum-told c = search needs

@@ -4,10 +4,10 @@ use mathlib.Core.Path.{sym, ap, _∙_, subst}
 use native.Mathlib.Omega.{arith}
 use borrow.Author.Needs.{needs}
 use Rattle.value.specs.declared.Columns.{Columns}
-use Rattle.view.specs.Parts.{textBy, SmallRow}
-use Rattle.view.proofs.Texts.{part-one, part-several, part-none}
-use Rattle.view.proofs.text_by.Statement.{statement}
-use Rattle.view.proofs.text_by.Tie as tie
+use Rattle.parts.specs.Parts.{textBy, SmallRow}
+use Rattle.parts.proofs.Texts.{part-one, part-several, part-none}
+use Rattle.parts.proofs.text_by.Statement.{statement}
+use Rattle.parts.proofs.text_by.Tie as tie
 
 enum-known-columns : tie.Need-enum-known-columns
 enum-known-columns c = search needs

@@ -24,11 +24,11 @@ use Rattle.value.specs.declared.Plan.the-variants.{Even}
 use Rattle.value.specs.Value.{Value, Outcome, readable, refused, gridded, text, texts, textOf, isQuaternions, letterPlan, planOf, valueBy, valueOf}
 use Rattle.items.specs.At.{Found, found, foundAt}
 use Rattle.value.specs.Answer.{columnsIn}
-use Rattle.view.specs.declared.Part.{Part}
-use Rattle.view.specs.declared.Part.the-variants.{At, Refused}
-use Rattle.view.specs.Parts.{none, rowText, partOf, textIn, textOfFound, textBy, SmallRow, bytesFrom}
-use Rattle.view.specs.Parts as Parts
-use Rattle.view.proofs.Found.{StandsAt, stands}
+use Rattle.parts.specs.declared.Part.{Part}
+use Rattle.parts.specs.declared.Part.the-variants.{At, Refused}
+use Rattle.parts.specs.Parts.{none, rowText, partOf, textIn, textOfFound, textBy, SmallRow, bytesFrom}
+use Rattle.parts.specs.Parts as Parts
+use Rattle.parts.proofs.Found.{StandsAt, stands}
 
 -- ---- by the letter
 module _ (h : KLV) (payload type : List ℕ) where

@@ -4,11 +4,11 @@ use mathlib.Core.Path.{sym, ap, _∙_}
 use native.Mathlib.Omega.{arith}
 use borrow.Author.Needs.{needs}
 use Rattle.items.specs.At.{Found}
-use Rattle.view.specs.declared.Part.the-variants.{At}
-use Rattle.view.specs.Parts.{bytesOfFound}
-use Rattle.view.proofs.Found.{by-header, by-refusal}
-use Rattle.view.proofs.bytes_at.Statement.{statement}
-use Rattle.view.proofs.bytes_at.Tie as tie
+use Rattle.parts.specs.declared.Part.the-variants.{At}
+use Rattle.parts.specs.Parts.{bytesOfFound}
+use Rattle.parts.proofs.Found.{by-header, by-refusal}
+use Rattle.parts.proofs.bytes_at.Statement.{statement}
+use Rattle.parts.proofs.bytes_at.Tie as tie
 
 klv-at-requires : tie.Need-klv-at-requires
 klv-at-requires c κs = search needs

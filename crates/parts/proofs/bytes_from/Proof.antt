@@ -5,8 +5,8 @@ use native.Mathlib.Omega.{arith}
 use borrow.Author.Needs.{needs}
 use lib.ListN.{length, take, drop, length-take, length-drop, drop-of-length-le}
 use lib.Seq.{take-all, take-nil}
-use Rattle.view.proofs.bytes_from.Statement.{statement}
-use Rattle.view.proofs.bytes_from.Tie as tie
+use Rattle.parts.proofs.bytes_from.Statement.{statement}
+use Rattle.parts.proofs.bytes_from.Tie as tie
 
 slice-aggregate-result : tie.Need-slice-aggregate-result
 slice-aggregate-result c = search needs

@@ -6,11 +6,11 @@ use Rattle.value.specs.declared.Columns.{Columns}
 use Rattle.value.specs.Value.{valueOf}
 use Rattle.items.specs.At.{Found}
 use Rattle.values.specs.At.{columnsOfFound}
-use Rattle.view.specs.Parts.{textOfFound, textBy, SmallRow}
-use Rattle.view.proofs.Found.{by-header, by-refusal}
-use Rattle.view.proofs.Texts.{few-before, by-columns}
-use Rattle.view.proofs.text_at.Statement.{statement}
-use Rattle.view.proofs.text_at.Tie as tie
+use Rattle.parts.specs.Parts.{textOfFound, textBy, SmallRow}
+use Rattle.parts.proofs.Found.{by-header, by-refusal}
+use Rattle.parts.proofs.Texts.{few-before, by-columns}
+use Rattle.parts.proofs.text_at.Statement.{statement}
+use Rattle.parts.proofs.text_at.Tie as tie
 
 klv-at-requires : tie.Need-klv-at-requires
 klv-at-requires c κs = search needs

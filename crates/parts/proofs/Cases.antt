@@ -14,9 +14,9 @@ use Rattle.values.specs.declared.Headed.the-variants as headed
 use Rattle.value.specs.Value.{kindOf, isQuaternions, letterPlan, planOf}
 use Rattle.items.specs.At.{typeAt, foundAt}
 use Rattle.values.specs.At.{klvOfFound}
-use Rattle.view.specs.declared.Part.{Part}
-use Rattle.view.specs.declared.Part.the-variants.{At, Refused}
-use Rattle.view.specs.Parts.{bytesOfFound, rowText, textOfFound, cut}
+use Rattle.parts.specs.declared.Part.{Part}
+use Rattle.parts.specs.declared.Part.the-variants.{At, Refused}
+use Rattle.parts.specs.Parts.{bytesOfFound, rowText, textOfFound, cut}
 
 -- an item: key, type, size, repeat below 256, payload
 abbrev itemOf : String → String → ℕ → ℕ → List ℕ → List ℕ

@@ -6,23 +6,17 @@ use mathlib.Core.Bool.{cond}
 use mathlib.Core.List.{List, []}
 use lib.Dec.{eqb, ltb}
 use lib.ListN.{length, take, drop}
-use denote.Ref.{now}
 use Rattle.klv.specs.declared.KLV.{KLV}
 use Rattle.klv.specs.OneText.{oneText}
 use Rattle.texts.specs.Kept.{kept}
 use Rattle.value.specs.declared.Columns.{Columns}
 use Rattle.value.specs.declared.Columns.the-variants as columns
 use Rattle.value.specs.Value.{Outcome, readable, refused, textOf, valueOf}
-use Rattle.items.specs.At.{Found, found, stopped, foundAt}
-use Rattle.view.specs.declared.Part.{Part}
-use Rattle.view.specs.declared.Part.the-variants.{At, Refused}
-use Rattle.view.specs.declared.View.{View}
+use Rattle.items.specs.At.{Found, found, stopped}
+use Rattle.parts.specs.declared.Part.{Part}
+use Rattle.parts.specs.declared.Part.the-variants.{At, Refused}
 
 -- ---- an item
-
--- what a view shows: the item at its place, with the TYPE at the other (document 01, Values: "a view that holds the payload and the row's place")
-abbrev pub foundIn : View → Found
-foundIn v = foundAt (now (v .payload)) (v .at) (v .«type_at»)
 
 -- its payload stands behind its header of 8 bytes
 abbrev pub bytesOfFound : Found → ℕ → Part

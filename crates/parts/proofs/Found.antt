@@ -14,7 +14,7 @@ use Rattle.klv.proofs.Item.{of-item, item-lengths}
 use Rattle.values.specs.declared.Headed.the-variants as headed
 use Rattle.items.specs.At.{Named, named, bad, Found, found, stopped, typeFor, overIf, wholeIf, foundBy, foundAt}
 use Rattle.values.specs.At.{klvOfFound}
-use Rattle.view.specs.Parts.{bytesFrom, cut, bytesOfFound}
+use Rattle.parts.specs.Parts.{bytesFrom, cut, bytesOfFound}
 
 pub record StandsAt (s : List ℕ) (at : ℕ) (h : KLV) (payload : List ℕ) : Type 0 where
   pub within : length s ≤ 1048576
