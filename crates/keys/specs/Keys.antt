@@ -2,22 +2,23 @@
 use Prim.Native.Nat.{ℕ}
 use mathlib.Core.List.{List, _++_}
 use Rattle.keys.specs.Table.{keysIn, sharing, counted, found}
+use Rattle.keys.specs.Tags.{dataTag, unitTag, matrixTag, scaleTag, timestampUsTag, nameTag, temperatureTag, countTag, orientationInTag, orientationOutTag}
 use Rattle.keys.specs.declared.GroupId.{GroupId}
 use Rattle.keys.specs.declared.Known.{Known}
 
--- the twenty-six keys that have a tag, as document 01 lists them (Items and the walk); the tags' names are those of the Rust's `tag_id`
+-- the twenty-six keys that have a tag, as document 01 lists them (Items and the walk)
 unfoldable pub tags : List Known
 tags =
-    sharing 1 (keysIn "GYRO ACCL GRAV WBAL ISOE SHUT MWET IORI CORI AALP WNDM UNIF WRGB GPS5 FASC")  -- Data: the readings
-    ++ sharing 2 (keysIn "SIUN UNIT")  -- Unit
-    ++ sharing 3 (keysIn "MTRX")  -- Matrix
-    ++ sharing 4 (keysIn "SCAL")  -- Scale: what the readings are divided by
-    ++ sharing 5 (keysIn "STMP")  -- TimestampUs: a time in microseconds
-    ++ sharing 6 (keysIn "STNM DVNM")  -- Name, of a stream or of a device
-    ++ sharing 7 (keysIn "TMPC")  -- Temperature
-    ++ sharing 8 (keysIn "TSMP")  -- Count: the samples so far
-    ++ sharing 9 (keysIn "ORIN")  -- OrientationIn: the order of the axes that come in
-    ++ sharing 10 (keysIn "ORIO")  -- OrientationOut: the order in which they are wanted
+    sharing dataTag (keysIn "GYRO ACCL GRAV WBAL ISOE SHUT MWET IORI CORI AALP WNDM UNIF WRGB GPS5 FASC")
+    ++ sharing unitTag (keysIn "SIUN UNIT")
+    ++ sharing matrixTag (keysIn "MTRX")
+    ++ sharing scaleTag (keysIn "SCAL")
+    ++ sharing timestampUsTag (keysIn "STMP")
+    ++ sharing nameTag (keysIn "STNM DVNM")
+    ++ sharing temperatureTag (keysIn "TMPC")
+    ++ sharing countTag (keysIn "TSMP")
+    ++ sharing orientationInTag (keysIn "ORIN")
+    ++ sharing orientationOutTag (keysIn "ORIO")
 
 -- the tag number of a key: document 01, Items and the walk ("All others are 0")
 abbrev pub tagOf : ℕ → ℕ

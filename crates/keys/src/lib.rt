@@ -1,5 +1,6 @@
 // What a key is known by: its tag number, and the group that it names.
 pub mod names;
+pub mod tags;
 
 use names::*;
 ghost use mathlib.Core.Path.{_≡_};

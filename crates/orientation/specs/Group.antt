@@ -3,6 +3,7 @@
 use Prim.Native.Nat.{ℕ}
 use mathlib.Core.List.{List}
 use Rattle.foundation.specs.Text.{key}
+use Rattle.keys.specs.Tags.{matrixTag, orientationInTag, orientationOutTag}
 use Rattle.tagged.specs.Tagged.{taggedOf}
 use Rattle.tagged.specs.declared.Tagged.{Tagged}
 use Rattle.tagged.specs.declared.Tagged.the-variants as tagged
@@ -27,7 +28,7 @@ byGroup s (tagged.Refused number place) else = Refused number place
 
 -- THE ORIENTATION of a group, given a payload and its rows
 unfoldable pub orientationOfGroup : List ℕ → List ℕ → ℕ → ℕ → ℕ → Oriented
-orientationOfGroup s rows count groupKind groupKey = byGroup s (of 3 (key "MTRX")) (byPair s (of 9 (key "ORIN")) (of 10 (key "ORIO")))
+orientationOfGroup s rows count groupKind groupKey = byGroup s (of matrixTag (key "MTRX")) (byPair s (of orientationInTag (key "ORIN")) (of orientationOutTag (key "ORIO")))
   where
     of : ℕ → ℕ → Tagged
     of tag k = taggedOf s rows count groupKind groupKey tag k

@@ -14,8 +14,7 @@ use Rattle.klv.specs.declared.KLV.{KLV}
 use Rattle.elements.specs.declared.Element.the-variants.{Signed, Unsigned, Single, Double}
 use Rattle.value.specs.declared.Read.{Read}
 use Rattle.value.specs.declared.Read.the-variants as read
-use Rattle.items.specs.At.{foundAt}
-use Rattle.values.specs.At.{elementOfFound}
+use Rattle.tagged.specs.Read.{readAt}
 use Rattle.orientation.specs.declared.Oriented.{Oriented}
 use Rattle.orientation.specs.declared.Oriented.the-variants.{Is, Nothing, Refused}
 
@@ -35,9 +34,9 @@ columnsOf h = h .size / 4
 
 -- ---- its first row
 
--- the first row of the item at a place, for which no TYPE is in force
+-- the first row of the item at a place
 abbrev pub firstRow : List ℕ → ℕ → ℕ → Read
-firstRow s at column = elementOfFound (foundAt s at 4294967295) at 0 column
+firstRow s at column = readAt s at 0 column
 
 -- a number of it
 abbrev pub singleOf : Read → Float

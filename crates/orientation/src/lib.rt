@@ -10,6 +10,7 @@ use tagged::Tagged;
 use value::Read;
 ghost use mathlib.Core.Path.{_≡_};
 ghost use Rattle.foundation.specs.Text.{key};
+ghost use Rattle.keys.specs.Tags.{orientationInTag, orientationOutTag};
 ghost use Rattle.klv.specs.Header.{headerAt};
 ghost use Rattle.tagged.specs.Tagged.{taggedOf};
 ghost use Rattle.orientation.specs.Matrix.{isSingle, isNested, columnsOf, singleOf, singlesOf, firstRow, told, byMatrix};
@@ -172,13 +173,6 @@ fn by_texts(s: &[u8], i: usize, orin: KLV, o: usize, orio: KLV) -> Oriented
     Oriented::Nothing
 }
 
-// The tag numbers of MTRX, ORIN and ORIO.
-const MATRIX: u32 = 3;
-
-const ORIENTATION_IN: u32 = 9;
-
-const ORIENTATION_OUT: u32 = 10;
-
 // An ORIN that stands whole at a place, and the group's ORIO.
 fn by_orio(
     s: &[u8],
@@ -190,7 +184,7 @@ fn by_orio(
     orin: KLV,
 ) -> Oriented
     requires { ⌜ headerAt (now s) i ≡ Header.Item orin ⌝ }
-    ensures { λ r. ⌜ r ≡ byPair (now (s .entry)) (Tagged.Is orin i) (taggedOf (now (s .entry)) (now (rows .entry)) count «group_kind» «group_key» 10 (key "ORIO")) ⌝ }
+    ensures { λ r. ⌜ r ≡ byPair (now (s .entry)) (Tagged.Is orin i) (taggedOf (now (s .entry)) (now (rows .entry)) count «group_kind» «group_key» orientationOutTag (key "ORIO")) ⌝ }
 {
     match tagged::tagged_item(
         s,
@@ -198,7 +192,7 @@ fn by_orio(
         count,
         group_kind,
         group_key,
-        ORIENTATION_OUT,
+        keys::tags::ORIENTATION_OUT,
         keys::names::ORIO,
     ) {
         Tagged::Refused { number, place } => Oriented::Refused { number, place },
@@ -209,7 +203,7 @@ fn by_orio(
 
 // The group's ORIN and ORIO.
 fn by_pair(s: &[u8], rows: &[u32], count: usize, group_kind: u32, group_key: u32) -> Oriented
-    ensures { λ r. ⌜ r ≡ byPair (now (s .entry)) (taggedOf (now (s .entry)) (now (rows .entry)) count «group_kind» «group_key» 9 (key "ORIN")) (taggedOf (now (s .entry)) (now (rows .entry)) count «group_kind» «group_key» 10 (key "ORIO")) ⌝ }
+    ensures { λ r. ⌜ r ≡ byPair (now (s .entry)) (taggedOf (now (s .entry)) (now (rows .entry)) count «group_kind» «group_key» orientationInTag (key "ORIN")) (taggedOf (now (s .entry)) (now (rows .entry)) count «group_kind» «group_key» orientationOutTag (key "ORIO")) ⌝ }
 {
     match tagged::tagged_item(
         s,
@@ -217,7 +211,7 @@ fn by_pair(s: &[u8], rows: &[u32], count: usize, group_kind: u32, group_key: u32
         count,
         group_kind,
         group_key,
-        ORIENTATION_IN,
+        keys::tags::ORIENTATION_IN,
         keys::names::ORIN,
     ) {
         Tagged::Refused { number, place } => Oriented::Refused { number, place },
@@ -244,7 +238,7 @@ pub fn orientation_of_group(
         count,
         group_kind,
         group_key,
-        MATRIX,
+        keys::tags::MATRIX,
         keys::names::MTRX,
     ) {
         Tagged::Refused { number, place } => Oriented::Refused { number, place },

@@ -7,6 +7,7 @@ use mathlib.Core.List.{List}
 use lib.IntN.{pos}
 use lib.Ieee.{Float, binary64, ofInt}
 use Rattle.foundation.specs.Text.{key}
+use Rattle.keys.specs.Tags.{dataTag, scaleTag}
 use Rattle.value.specs.Value.{isQuaternions}
 use Rattle.value.specs.declared.Read.{Read}
 use Rattle.value.specs.declared.Read.the-variants as read
@@ -51,7 +52,7 @@ scaleBy s (tagged.Refused why place) = scale.Refused why place
 
 -- the SCAL that lookup finds for the group
 unfoldable pub scaleOf : List ℕ → List ℕ → ℕ → ℕ → ℕ → Scale
-scaleOf s rows count groupKind groupKey = scaleBy s (taggedOf s rows count groupKind groupKey 4 (key "SCAL"))
+scaleOf s rows count groupKind groupKey = scaleBy s (taggedOf s rows count groupKind groupKey scaleTag (key "SCAL"))
 
 -- ---- the quaternion
 
@@ -80,4 +81,4 @@ quaternionIn s row by (tagged.Refused why place) = Refused why place
 
 -- THE QUATERNION of a row of the data that lookup finds for the group
 unfoldable pub quaternionOf : List ℕ → List ℕ → ℕ → ℕ → ℕ → ℕ → ScaledRow
-quaternionOf s rows count groupKind groupKey row = quaternionIn s row (scaleOf s rows count groupKind groupKey) (taggedOf s rows count groupKind groupKey 1 0)
+quaternionOf s rows count groupKind groupKey row = quaternionIn s row (scaleOf s rows count groupKind groupKey) (taggedOf s rows count groupKind groupKey dataTag 0)

@@ -1,5 +1,10 @@
 // Quaternions of CORI and IORI, scaled.
 use elements::Element;
+use keys::names::CORI;
+use keys::names::IORI;
+use keys::names::SCAL;
+use keys::tags::DATA;
+use keys::tags::SCALE;
 use klv::KLV;
 use tagged::Tagged;
 use value::Read;
@@ -79,17 +84,6 @@ enum Scale {
     By(f64),
     Refused { number: u32, place: usize },
 }
-
-// The tag numbers of data and of scales, and the keys of the items.
-const DATA: u32 = 1;
-
-const SCALE: u32 = 4;
-
-const CORI: u32 = 0x434f5249;
-
-const IORI: u32 = 0x494f5249;
-
-const SCAL: u32 = 0x5343414c;
 
 // Whether the value under a header is quaternions.
 fn is_quaternions(klv: KLV) -> bool

@@ -40,7 +40,7 @@ packet whole number place payload room (accepted rs headers) = packetLine number
 packet true number place payload room (refused why at) = []
 packet false number place payload room (refused why at) = packetLine number place (length payload) ++ (listing (refused why at) ++ front payload room at)
 
--- A PACKET OVER WHAT IS HELD, by its length: "refused with 1 at 0", before which nothing stands
+-- A PACKET OVER WHAT IS HELD, by its length: `refused 1 at 0`, before which nothing stands
 abbrev pub longPacket : Bool → ℕ → ℕ → ℕ → List (List ℕ)
 longPacket true number place bytes = []
 longPacket false number place bytes = packetLine number place bytes ++ (listing (refused tooLong 0) ++ (characters "front " ∷ listing (accepted [] 0)))
