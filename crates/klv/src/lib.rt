@@ -16,13 +16,15 @@ pub struct KLV {
     pub repeat: u16,
 }
 
-fn wide(size: u8) -> usize
+// A size as a number of bytes.
+pub fn wide(size: u8) -> usize
     ensures { λ r. ⌜ (r ≡ size) × (r < 256) ⌝ }
 {
     size as usize
 }
 
-fn wider(repeat: u16) -> usize
+// A repeat as a number of samples.
+pub fn wider(repeat: u16) -> usize
     ensures { λ r. ⌜ (r ≡ repeat) × (r < 65536) ⌝ }
 {
     repeat as usize

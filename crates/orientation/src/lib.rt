@@ -6,6 +6,7 @@ use elements::Element;
 use klv::Cursor;
 use klv::Header;
 use klv::KLV;
+use klv::wide;
 use tagged::Tagged;
 use value::Read;
 ghost use mathlib.Core.Path.{_≡_};
@@ -100,12 +101,6 @@ fn is_nested(columns: usize) -> bool
         return true;
     }
     false
-}
-
-fn wide(size: u8) -> usize
-    ensures { λ r. ⌜ r ≡ size ⌝ }
-{
-    size as usize
 }
 
 // How many numbers of four bytes a row has.

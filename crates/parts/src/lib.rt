@@ -1,6 +1,7 @@
 // Parts of what was lent: the bytes of an item, and a text of its value, each by where it starts and how many bytes it has.
 use klv::Cursor;
 use klv::KLV;
+use klv::wide;
 use value::Columns;
 use values::Headed;
 ghost use mathlib.Core.Path.{_≡_};
@@ -25,12 +26,6 @@ pub fn bytes_at(s: &[u8], at: usize, type_at: usize) -> Part
             length: klv.data_len(),
         },
     }
-}
-
-fn wide(size: u8) -> usize
-    ensures { λ r. ⌜ (r ≡ size) × (r < 256) ⌝ }
-{
-    size as usize
 }
 
 // The text of a row, by the columns of that row.

@@ -1,5 +1,7 @@
 // What is to be read of an item, by the letter of its type.
 use klv::KLV;
+use klv::wide;
+use klv::wider;
 use value::Grid;
 use value::Kind;
 use value::Plan;
@@ -8,18 +10,6 @@ ghost use Prim.Native.Nat.{_<_, _≤_};
 ghost use Rattle.elements.specs.Types.{widthOf};
 ghost use Rattle.value.specs.Value.{kindOf, isQuaternions, quaternions, numbers, text};
 ghost use Rattle.payload_values.specs.Small.{SmallGrid, Planned, LetterPlanned};
-
-fn wide(size: u8) -> usize
-    ensures { λ r. ⌜ (r ≡ size) × (r < 256) ⌝ }
-{
-    size as usize
-}
-
-fn wider(repeat: u16) -> usize
-    ensures { λ r. ⌜ (r ≡ repeat) × (r < 65536) ⌝ }
-{
-    repeat as usize
-}
 
 fn kind_of(repeat: u16, n: usize) -> Kind
     ensures { λ r. ⌜ r ≡ kindOf repeat n ⌝ }

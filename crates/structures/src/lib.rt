@@ -1,6 +1,7 @@
 // Structures: rows whose columns have letters of their own, as the TYPE text lists them.
 use custom_type::Expanded;
 use klv::KLV;
+use klv::wider;
 use value::Kind;
 use value::Read;
 use value::Shape;
@@ -24,12 +25,6 @@ pub struct Row {
 pub struct Letter {
     pub letter: u8,
     pub before: usize,
-}
-
-fn wider(repeat: u16) -> usize
-    ensures { λ r. ⌜ (r ≡ repeat) × (r < 65536) ⌝ }
-{
-    repeat as usize
 }
 
 // A letter that reads something is a column.

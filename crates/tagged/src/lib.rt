@@ -2,6 +2,7 @@
 use klv::Cursor;
 use klv::Header;
 use klv::KLV;
+use klv::wide;
 use rows::Found;
 use rows::Row;
 use rows::RowAt;
@@ -77,12 +78,6 @@ pub fn tagged_item(
             item_at(s, row.place)
         }
     }
-}
-
-fn wide(size: u8) -> usize
-    ensures { λ r. ⌜ r ≡ size ⌝ }
-{
-    size as usize
 }
 
 // Whether the value under a header is one number of a letter.

@@ -2,6 +2,8 @@
 use dates::Date;
 use elements::Element;
 use klv::KLV;
+use klv::wide;
+use klv::wider;
 use value::Columns;
 use value::Kind;
 use value::Read;
@@ -13,18 +15,6 @@ ghost use lib.ListN.{length};
 ghost use Rattle.dates.specs.Date.{dateOf};
 ghost use Rattle.value.specs.Value.{textOf, texts, dated};
 ghost use Rattle.value.specs.Answer.{elementIn, shapeIn, columnsIn};
-
-fn wide(size: u8) -> usize
-    ensures { λ r. ⌜ (r ≡ size) × (r < 256) ⌝ }
-{
-    size as usize
-}
-
-fn wider(repeat: u16) -> usize
-    ensures { λ r. ⌜ (r ≡ repeat) × (r < 65536) ⌝ }
-{
-    repeat as usize
-}
 
 // The kept bytes of the text of a row.
 fn kept(klv: KLV, payload: &[u8], row: usize) -> usize

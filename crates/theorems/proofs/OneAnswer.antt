@@ -105,6 +105,10 @@ use Rattle.keys.proofs.tag_id.Kinds as tag-id-kinds
 use Rattle.keys.proofs.tag_id.Reads as tag-id-reads
 use Rattle.keys.proofs.group_from_key.Kinds as group-from-key-kinds
 use Rattle.keys.proofs.group_from_key.Reads as group-from-key-reads
+use Rattle.klv.proofs.wide.Kinds as wide-kinds
+use Rattle.klv.proofs.wide.Reads as wide-reads
+use Rattle.klv.proofs.wider.Kinds as wider-kinds
+use Rattle.klv.proofs.wider.Reads as wider-reads
 use Rattle.klv.proofs.KLV.data_len.Kinds as data-len-kinds
 use Rattle.klv.proofs.KLV.data_len.Reads as data-len-reads
 use Rattle.klv.proofs.KLV.aligned_data_len.Kinds as aligned-data-len-kinds
@@ -270,6 +274,12 @@ tag-id κs a x y s t p q = p ∙ sym q
 
 pub group-from-key : OneResult 0 group-from-key-kinds.ps group-from-key-kinds.r group-from-key-reads.Learnt
 group-from-key κs a x y s t p q = p ∙ sym q
+
+pub wide : OneResult 0 wide-kinds.ps wide-kinds.r wide-reads.Learnt
+wide κs a x y s t p q = p .0 ∙ sym (q .0)
+
+pub wider : OneResult 0 wider-kinds.ps wider-kinds.r wider-reads.Learnt
+wider κs a x y s t p q = p .0 ∙ sym (q .0)
 
 pub data-len : OneResult 0 data-len-kinds.ps data-len-kinds.r data-len-reads.Learnt
 data-len κs a x y s t p q = p .0 ∙ sym (q .0)

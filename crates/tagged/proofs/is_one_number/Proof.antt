@@ -32,12 +32,12 @@ div-if4 c = search needs
 returns-4 : tie.Need-returns-4
 returns-4 c =
     let a = c .before .before .before .before .before .before .before .before .args in
-    sym (by-quotient (a .klv) (a .letter) (c .before .before .before .before .before .before .before .width .ensures .0) (c .before .wide .ensures) (c .before .before .before .before .before .if1 .left) (c .before .before .before .if2 .left) ∙ ne-eqb _ 1 (c .if4 .taken))
+    sym (by-quotient (a .klv) (a .letter) (c .before .before .before .before .before .before .before .width .ensures .0) (c .before .wide .ensures .0) (c .before .before .before .before .before .if1 .left) (c .before .before .before .if2 .left) ∙ ne-eqb _ 1 (c .if4 .taken))
 
 returns-5 : tie.Need-returns-5
 returns-5 c =
     let a = c .before .before .before .before .before .before .before .before .args in
-    sym (by-quotient (a .klv) (a .letter) (c .before .before .before .before .before .before .before .width .ensures .0) (c .before .wide .ensures) (c .before .before .before .before .before .if1 .left) (c .before .before .before .if2 .left) ∙ eq-eqb _ 1 (c .if4 .left))
+    sym (by-quotient (a .klv) (a .letter) (c .before .before .before .before .before .before .before .width .ensures .0) (c .before .wide .ensures .0) (c .before .before .before .before .before .if1 .left) (c .before .before .before .if2 .left) ∙ eq-eqb _ 1 (c .if4 .left))
 
 pub is-one-number-spec : {M : Type 1} → statement M
 is-one-number-spec =
