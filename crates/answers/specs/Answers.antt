@@ -20,8 +20,8 @@ use Rattle.line.specs.declared.Number as line
 use Rattle.line.specs.declared.Number.the-variants as number-in
 use Rattle.line.specs.declared.Decoded.{Decoded}
 use Rattle.line.specs.declared.Decoded.the-variants as decoded
-use Rattle.raw_file.specs.declared.Found as devc
-use Rattle.raw_file.specs.declared.Found.the-variants as devc-found
+use Rattle.search.specs.declared.Found as devc
+use Rattle.search.specs.declared.Found.the-variants as devc-found
 use Rattle.raw_file.specs.declared.Packet.{Packet}
 use Rattle.raw_file.specs.declared.Packets.{Packets}
 use Rattle.raw_file.specs.declared.NextPacket.{NextPacket}

@@ -112,12 +112,12 @@ pub fn of_stamp(x: Stamp) -> WholeAnswer
 }
 
 // The place of a DEVC in a file.
-pub fn of_devc(x: raw_file::Found) -> WholeAnswer
+pub fn of_devc(x: search::Found) -> WholeAnswer
     ensures { λ r. ⌜ r ≡ tells.ofDevc x ⌝ }
 {
     match x {
-        raw_file::Found::At(n) => whole(IS, 0, 0, n as u64),
-        raw_file::Found::Nothing => whole(NOTHING, 0, 0, 0),
+        search::Found::At(n) => whole(IS, 0, 0, n as u64),
+        search::Found::Nothing => whole(NOTHING, 0, 0, 0),
     }
 }
 

@@ -4,7 +4,7 @@ use answers::PacketMetadataAnswer;
 use answers::WholeAnswer;
 use raw_file::Packets;
 ghost use mathlib.Core.Path.{_≡_};
-ghost use Rattle.raw_file.specs.Search.{findFrom};
+ghost use Rattle.search.specs.Search.{findFrom};
 ghost use Rattle.raw_file.specs.Packets.{nextPacket};
 ghost use Rattle.raw_file.specs.Window.{inWindow};
 ghost use Rattle.answers.specs.Answers.{ofDevc, ofNextPacket, ofInWindow};
@@ -15,7 +15,7 @@ ghost use Rattle.gpmf.specs.Lent.{ReadNextAs, ReadInWindowAs};
 pub extern "C" fn gpmf_find_devc(file: &[u8], from: usize) -> WholeAnswer
     ensures { λ r. ⌜ r ≡ ofDevc (findFrom (now (file .entry)) from) ⌝ }
 {
-    answers::of_devc(raw_file::find_devc(file, from))
+    answers::of_devc(search::find_devc(file, from))
 }
 
 // A cursor over packets.

@@ -1,8 +1,8 @@
 // Packets over what is held, whose end is sought.
 use crate::held::Held;
 use crate::step::Step;
-use raw_file::Found;
 use raw_file::Packets;
+use search::Found;
 
 // Where they start in the file: 0 where there is none, and twice the same where there is one. At most two overlap.
 pub(crate) struct Long {
@@ -35,7 +35,7 @@ pub(crate) fn after(step: Step, held: Held, long: Long, window: &[u8]) -> Long {
 // The packet whose DEVC stands at a place, and the one that overlaps it.
 fn from_devc(held: Held, from: usize, window: &[u8]) -> Long {
     let first = packet_at(held, from);
-    match raw_file::find_devc(window, crate::held::plus(from, 1)) {
+    match search::find_devc(window, crate::held::plus(from, 1)) {
         Found::At(at) => Long {
             first,
             second: packet_at(held, at),

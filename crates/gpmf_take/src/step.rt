@@ -1,9 +1,9 @@
 // What to do next, by the window that is held.
 use crate::held::Held;
-use raw_file::Found;
 use raw_file::InWindow;
 use raw_file::Packet;
 use raw_file::Packets;
+use search::Found;
 
 // How many bytes of a window say that a packet is over what is held, and the one that may overlap it too: a DEVC and four bytes, the most bytes,
 // three in which its end may begin, and seven by which the other may start later.
@@ -44,7 +44,7 @@ fn read(count: usize, from: usize) -> Step {
 
 // A long packet ends at the next DEVC, or with the file.
 fn seek_end(held: Held, window: &[u8]) -> Step {
-    match raw_file::find_devc(window, held.at) {
+    match search::find_devc(window, held.at) {
         Found::At(end) => Step::PrintLong { end },
         Found::Nothing => {
             if held.ended {

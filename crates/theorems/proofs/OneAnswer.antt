@@ -221,8 +221,8 @@ use Rattle.axes.proofs.mtrx_to_orientation.Kinds as mtrx-to-orientation-kinds
 use Rattle.axes.proofs.mtrx_to_orientation.Reads as mtrx-to-orientation-reads
 use Rattle.orientation.proofs.orientation_of_group.Kinds as orientation-of-group-kinds
 use Rattle.orientation.proofs.orientation_of_group.Reads as orientation-of-group-reads
-use Rattle.raw_file.proofs.find_devc.Kinds as find-devc-kinds
-use Rattle.raw_file.proofs.find_devc.Reads as find-devc-reads
+use Rattle.search.proofs.find_devc.Kinds as find-devc-kinds
+use Rattle.search.proofs.find_devc.Reads as find-devc-reads
 use Rattle.raw_file.proofs.Packets.new.Kinds as packets-new-kinds
 use Rattle.raw_file.proofs.Packets.new.Reads as packets-new-reads
 use Rattle.raw_file.proofs.Packets.next.Kinds as packets-next-kinds
