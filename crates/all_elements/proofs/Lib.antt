@@ -1,8 +1,4 @@
-mod Each
 mod Plans
 mod Outcomes
-mod Signs
-mod TextRows
 pub mod InOrder
 pub mod Cases
-mod OwnBytes

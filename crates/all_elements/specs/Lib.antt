@@ -1,4 +1,2 @@
-pub mod Bits
-pub mod All
 pub mod Laid
 pub mod Letter

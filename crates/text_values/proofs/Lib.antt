@@ -1,1 +1,1 @@
-mod SeveralTexts
+pub mod SeveralTexts

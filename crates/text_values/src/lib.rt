@@ -10,27 +10,40 @@ use value::Read;
 use value::Shape;
 use value::Shaped;
 ghost use mathlib.Core.Path.{_≡_};
-ghost use Prim.Native.Nat.{_+_, _*_, _<_};
-ghost use lib.ListN.{length};
+ghost use Prim.Native.Nat.{_*_, _<_};
+ghost use lib.ListN.{take, drop};
 ghost use Rattle.dates.specs.Date.{dateOf};
 ghost use Rattle.value.specs.Value.{textOf, texts, dated};
 ghost use Rattle.value.specs.Answer.{elementIn, shapeIn, columnsIn};
 
-// The kept bytes of the text of a row.
-fn kept(klv: KLV, payload: &[u8], row: usize) -> usize
-    requires { ⌜ row < 65536 ⌝ }
-    ensures { λ r. ⌜ r ≡ length (textOf klv (now (payload .entry)) row) ⌝ }
+fn widest(row: u32) -> usize
+    ensures { λ r. ⌜ (r ≡ row) × (r < 4294967296) ⌝ }
+{
+    row as usize
+}
+
+// The room of the text of a row, as far as the payload goes.
+fn room_of(klv: KLV, payload: &[u8], row: u32) -> &[u8]
+    ensures { λ r. ⌜ now r ≡ take (klv .size) (drop (row * klv .size) (now (payload .entry))) ⌝ }
 {
     let size = wide(klv.size);
-    let start = row * size;
+    let start = widest(row) * size;
     if payload.len() < start {
-        return 0;
+        return &payload[..0];
     }
-    let rest = &payload[start..];
-    if rest.len() < size {
-        return texts::utf8_len(rest);
+    if payload.len() - start < size {
+        return &payload[start..];
     }
-    texts::utf8_len(&rest[..size])
+    &payload[start..start + size]
+}
+
+// The text of a row: the bytes that it keeps.
+pub fn row_text(klv: KLV, payload: &[u8], row: u32) -> &[u8]
+    ensures { λ r. ⌜ now r ≡ textOf klv (now (payload .entry)) row ⌝ }
+{
+    let room = room_of(klv, payload, row);
+    let kept = texts::utf8_len(room);
+    &room[..kept]
 }
 
 // An element of several texts: a byte of the text of a row.
@@ -43,10 +56,11 @@ pub fn element(place: usize, klv: KLV, payload: &[u8], row: usize, column: usize
     if wider(klv.repeat) <= row {
         return Read::Refused { number: 13, place };
     }
-    if kept(klv, payload, row) <= column {
+    let text = row_text(klv, payload, row as u32);
+    if text.len() <= column {
         return Read::Refused { number: 13, place };
     }
-    Read::Is(elements::element_at(payload, row * wide(klv.size) + column, b'B'))
+    Read::Is(elements::element_at(text, column, b'B'))
 }
 
 // The columns of a row of several texts: the bytes that its text keeps.
@@ -59,7 +73,8 @@ pub fn columns(place: usize, klv: KLV, payload: &[u8], row: usize) -> Columns
     if wider(klv.repeat) <= row {
         return Columns::Refused { number: 13, place };
     }
-    Columns::Are(kept(klv, payload, row))
+    let kept = row_text(klv, payload, row as u32);
+    Columns::Are(kept.len())
 }
 
 // The shape of several texts, with the columns of the first.
@@ -69,10 +84,11 @@ pub fn shape(place: usize, klv: KLV, payload: &[u8]) -> Shaped
     if !texts::are_utf8(payload, wide(klv.size)) {
         return Shaped::Refused { number: 7, place };
     }
+    let first = row_text(klv, payload, 0);
     Shaped::Is(Shape {
         kind: Kind::Texts,
         rows: wider(klv.repeat),
-        columns: kept(klv, payload, 0),
+        columns: first.len(),
     })
 }
 

@@ -157,6 +157,8 @@ use Rattle.elements.proofs.width.Kinds as width-kinds
 use Rattle.elements.proofs.width.Reads as width-reads
 use Rattle.elements.proofs.element_at.Kinds as element-at-kinds
 use Rattle.elements.proofs.element_at.Reads as element-at-reads
+use Rattle.text_values.proofs.row_text.Kinds as row-text-kinds
+use Rattle.text_values.proofs.row_text.Reads as row-text-reads
 use Rattle.text_values.proofs.element.Kinds as text-element-kinds
 use Rattle.text_values.proofs.element.Reads as text-element-reads
 use Rattle.text_values.proofs.columns.Kinds as text-columns-kinds
@@ -187,6 +189,12 @@ use Rattle.values.proofs.shape_at.Kinds as shape-at-kinds
 use Rattle.values.proofs.shape_at.Reads as shape-at-reads
 use Rattle.values.proofs.columns_at.Kinds as columns-at-kinds
 use Rattle.values.proofs.columns_at.Reads as columns-at-reads
+use Rattle.element_bits.proofs.bits_of.Kinds as bits-of-kinds
+use Rattle.element_bits.proofs.bits_of.Reads as bits-of-reads
+use Rattle.element_bits.proofs.lay.Kinds as lay-elements-kinds
+use Rattle.element_bits.proofs.lay.Reads as lay-elements-reads
+use Rattle.text_rows.proofs.lay.Kinds as lay-texts-kinds
+use Rattle.text_rows.proofs.lay.Reads as lay-texts-reads
 use Rattle.all_elements.proofs.elements_at.Kinds as elements-at-kinds
 use Rattle.all_elements.proofs.elements_at.Reads as elements-at-reads
 use Rattle.parts.proofs.bytes_at.Kinds as bytes-at-kinds
@@ -345,6 +353,10 @@ width κs a x y s t p q = p .0 ∙ sym (q .0)
 pub element-at : OneResult 1 element-at-kinds.ps element-at-kinds.r element-at-reads.Learnt
 element-at κs a x y s t p q = p ∙ sym q
 
+pub row-text : (κs : Lfts 1) (a : Dens κs row-text-kinds.ps) (x y : resT row-text-kinds.r κs .Denot) (s t : AtExit (endedOf 1 row-text-kinds.ps row-text-kinds.r) κs)
+    → row-text-reads.Learnt κs a x s → row-text-reads.Learnt κs a y t → now x ≡ now y
+row-text κs a x y s t p q = p ∙ sym q
+
 pub text-element : OneResult 1 text-element-kinds.ps text-element-kinds.r text-element-reads.Learnt
 text-element κs a x y s t p q = p ∙ sym q
 
@@ -389,6 +401,15 @@ shape-at κs a x y s t p q = p ∙ sym q
 
 pub columns-at : OneResult 1 columns-at-kinds.ps columns-at-kinds.r columns-at-reads.Learnt
 columns-at κs a x y s t p q = p ∙ sym q
+
+pub bits-of : OneResult 0 bits-of-kinds.ps bits-of-kinds.r bits-of-reads.Learnt
+bits-of κs a x y s t p q = p ∙ sym q
+
+pub lay-elements : OneAnswer 2 lay-elements-kinds.ps lay-elements-kinds.r lay-elements-reads.Learnt (λ κs s. now (s .1 .1 .0))
+lay-elements κs a x y s t p q = (p .is ∙ sym (q .is), p .numbers ∙ sym (q .numbers))
+
+pub lay-texts : OneAnswer 2 lay-texts-kinds.ps lay-texts-kinds.r lay-texts-reads.Learnt (λ κs s. now (s .1 .1 .0))
+lay-texts κs a x y s t p q = (p .is ∙ sym (q .is), p .numbers ∙ sym (q .numbers))
 
 pub elements-at : OneAnswer 2 elements-at-kinds.ps elements-at-kinds.r elements-at-reads.Learnt (λ κs s. now (s .1 .1 .1 .0))
 elements-at κs a x y s t p q = (p .is ∙ sym (q .is), p .numbers ∙ sym (q .numbers))

@@ -1,9 +1,11 @@
--- `text::element` meets its contract. Assumes nothing.
-use native.Mathlib.Nat.{mul-le-mul}
-use native.Mathlib.Omega.{arith}
-use Prim.Native.Nat.{_*_, _≤_}
+-- `element` meets its contract. Assumes nothing.
+use Prim.Native.Nat.{ℕ}
+use mathlib.Core.Path.{ap, _∙_}
+use mathlib.Core.List.{List}
 use borrow.Author.Needs.{needs}
-use Rattle.text_values.proofs.SeveralTexts.{kept-most, element-refused, element-row, element-column, element-good}
+use lib.ListN.{length}
+use Rattle.elements.specs.Element.{elementAt}
+use Rattle.text_values.proofs.SeveralTexts.{element-refused, element-row, element-column, element-good}
 use Rattle.text_values.proofs.element.Statement.{statement}
 use Rattle.text_values.proofs.element.Tie as tie
 
@@ -22,36 +24,20 @@ wider-requires c κs = search needs
 returns-2 : tie.Need-returns-2
 returns-2 c = element-row (c .before .before .before .before .before .before .args .klv) (c .before .before .before .before .before .before .args .payload .now) (c .before .before .before .before .before .before .args .place) (c .before .before .before .before .wide .result) (c .before .before .before .before .wide .ensures .0) (c .before .before .before .are-utf8 .result) (c .before .before .before .are-utf8 .ensures) (c .before .before .if1 .left) (c .before .wider .result) (c .before .wider .ensures .0) (c .before .before .before .before .before .before .args .row) (c .before .before .before .before .before .before .args .column) (c .if2 .taken)
 
-kept-requires : tie.Need-kept-requires
-kept-requires c κs = omega arith
+cast-row-text : tie.Need-cast-row-text
+cast-row-text c = search needs
+
+row-text-requires : tie.Need-row-text-requires
+row-text-requires c κs = search needs
 
 returns-3 : tie.Need-returns-3
-returns-3 c = element-column (c .before .before .before .before .before .before .before .before .args .klv) (c .before .before .before .before .before .before .before .before .args .payload .now) (c .before .before .before .before .before .before .before .before .args .place) (c .before .before .before .before .before .before .wide .result) (c .before .before .before .before .before .before .wide .ensures .0) (c .before .before .before .before .before .are-utf8 .result) (c .before .before .before .before .before .are-utf8 .ensures) (c .before .before .before .before .if1 .left) (c .before .before .before .wider .result) (c .before .before .before .wider .ensures .0) (c .before .before .before .before .before .before .before .before .args .row) (c .before .before .if2 .left) (c .before .kept .result) (c .before .kept .ensures) (c .before .before .before .before .before .before .before .before .args .column) (c .if3 .taken)
-
-wide-requires-2 : tie.Need-wide-requires-2
-wide-requires-2 c κs = search needs
-
-mul-element-at : tie.Need-mul-element-at
-mul-element-at c =
-    let row : c .before .before .before .before .before .before .before .before .before .args .row ≤ 65536 = omega arith in
-    let size : c .wide2 .result ≤ 256 = omega arith in
-    let most : c .before .before .before .before .before .before .before .before .before .args .row * c .wide2 .result ≤ 65536 * 256 = mul-le-mul row size in
-    omega arith
-
-add-element-at : tie.Need-add-element-at
-add-element-at c =
-    let row : c .before .before .before .before .before .before .before .before .before .args .row ≤ 65536 = omega arith in
-    let size : c .wide2 .result ≤ 256 = omega arith in
-    let most : c .before .before .before .before .before .before .before .before .before .args .row * c .wide2 .result ≤ 65536 * 256 = mul-le-mul row size in
-    let kept = kept-most (c .before .before .before .before .before .before .before .before .before .args .klv) (c .before .before .before .before .before .before .before .before .before .args .payload .now) (c .before .before .before .before .before .before .before .before .before .args .row) in
-    let column : c .before .before .before .before .before .before .before .before .before .args .column ≤ 256 = omega (arith, c .before .before .kept .ensures, c .wide2 .ensures .0) in
-    omega arith
+returns-3 c = element-column (c .before .before .before .before .before .before .before .before .args .klv) (c .before .before .before .before .before .before .before .before .args .payload .now) (c .before .before .before .before .before .before .before .before .args .place) (c .before .before .before .before .before .before .wide .result) (c .before .before .before .before .before .before .wide .ensures .0) (c .before .before .before .before .before .are-utf8 .result) (c .before .before .before .before .before .are-utf8 .ensures) (c .before .before .before .before .if1 .left) (c .before .before .before .wider .result) (c .before .before .before .wider .ensures .0) (c .before .before .before .before .before .before .before .before .args .row) (c .before .before .if2 .left) (length (c .before .row-text .result .now)) (ap length (c .before .row-text .ensures)) (c .before .before .before .before .before .before .before .before .args .column) (c .if3 .taken)
 
 element-at-requires : tie.Need-element-at-requires
 element-at-requires c κs = search needs
 
 returns-4 : tie.Need-returns-4
-returns-4 c = element-good (c .before .before .before .before .before .before .before .before .before .before .args .klv) (c .before .before .before .before .before .before .before .before .before .before .args .payload .now) (c .before .before .before .before .before .before .before .before .before .before .args .place) (c .before .before .before .before .before .before .before .before .wide .result) (c .before .before .before .before .before .before .before .before .wide .ensures .0) (c .before .before .before .before .before .before .before .are-utf8 .result) (c .before .before .before .before .before .before .before .are-utf8 .ensures) (c .before .before .before .before .before .before .if1 .left) (c .before .before .before .before .before .wider .result) (c .before .before .before .before .before .wider .ensures .0) (c .before .before .before .before .before .before .before .before .before .before .args .row) (c .before .before .before .before .if2 .left) (c .before .before .before .kept .result) (c .before .before .before .kept .ensures) (c .before .before .before .before .before .before .before .before .before .before .args .column) (c .before .wide2 .result) (c .element-at .result) (c .before .before .if3 .left) (c .before .wide2 .ensures .0) (c .element-at .ensures)
+returns-4 c = element-good (c .before .before .before .before .before .before .before .before .before .args .klv) (c .before .before .before .before .before .before .before .before .before .args .payload .now) (c .before .before .before .before .before .before .before .before .before .args .place) (c .before .before .before .before .before .before .before .wide .result) (c .before .before .before .before .before .before .before .wide .ensures .0) (c .before .before .before .before .before .before .are-utf8 .result) (c .before .before .before .before .before .before .are-utf8 .ensures) (c .before .before .before .before .before .if1 .left) (c .before .before .before .before .wider .result) (c .before .before .before .before .wider .ensures .0) (c .before .before .before .before .before .before .before .before .before .args .row) (c .before .before .before .if2 .left) (length (c .before .before .row-text .result .now)) (ap length (c .before .before .row-text .ensures)) (c .before .before .before .before .before .before .before .before .before .args .column) (c .element-at .result) (c .before .if3 .left) (c .element-at .ensures ∙ ap (λ (t : List ℕ). elementAt t (c .before .before .before .before .before .before .before .before .before .args .column) 66) (c .before .before .row-text .ensures))
 
 pub element-spec : {M : Type 1} → statement M
 element-spec =
@@ -62,10 +48,8 @@ element-spec =
     returns
     wider-requires
     returns-2
-    kept-requires
+    cast-row-text
+    row-text-requires
     returns-3
-    wide-requires-2
-    mul-element-at
-    add-element-at
     element-at-requires
     returns-4)
