@@ -14,8 +14,8 @@ use Rattle.dates.specs.declared.Date.the-variants as date
 use Rattle.dates.specs.Date as Date
 use Rattle.last_item.specs.declared.LastItem.{LastItem}
 use Rattle.last_item.specs.declared.LastItem.the-variants as last
-use Rattle.metadata.specs.declared.Metadata.{Metadata}
-use Rattle.metadata.specs.declared.Metadata.the-variants as reading
+use Rattle.walk.specs.declared.Metadata.{Metadata}
+use Rattle.walk.specs.declared.Metadata.the-variants as reading
 use Rattle.line.specs.declared.Number as line
 use Rattle.line.specs.declared.Number.the-variants as number-in
 use Rattle.line.specs.declared.Decoded.{Decoded}

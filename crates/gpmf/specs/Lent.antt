@@ -10,7 +10,7 @@ use Rattle.custom_type.specs.Resolved as Resolved
 use Rattle.line.specs.Read.{decoded, decodedInto}
 use Rattle.reading.specs.Walk.{Outcome, roomOf}
 use Rattle.reading.specs.Answer.{lent}
-use Rattle.metadata.specs.Metadata.{told}
+use Rattle.walk.specs.Metadata.{told}
 use Rattle.raw_file.specs.Packets.{nextPacket}
 use Rattle.raw_file.specs.Window.{inWindow}
 use Rattle.raw_metadata.specs.Readings.{metadataOf, lentFor}

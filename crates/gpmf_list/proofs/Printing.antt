@@ -9,8 +9,8 @@ use lib.Dec.{ltb}
 use lib.ListN.{length}
 use Rattle.reading.specs.Refusal.{tooLong}
 use Rattle.reading.specs.Walk.{Outcome, refused, readingOf, roomOf}
-use Rattle.metadata.specs.Metadata.{told}
-use Rattle.metadata.specs.declared.Metadata.the-variants.{Refused}
+use Rattle.walk.specs.Metadata.{told}
+use Rattle.walk.specs.declared.Metadata.the-variants.{Refused}
 use Rattle.listing.specs.Listing.{answerLine, recordLines}
 use Rattle.listing.specs.Lines.{LaysLines, Begins, Lists}
 use Rattle.listing.proofs.Lines.{lines-begin}

@@ -10,9 +10,9 @@ use Rattle.reading.specs.Record.{rowWidth}
 use Rattle.reading.specs.Walk.{Outcome, accepted, refused, readingOf, roomOf}
 use Rattle.reading.specs.Answer.{lent}
 use Rattle.reading.proofs.Bounds.{read-bound}
-use Rattle.metadata.specs.declared.Metadata.{Metadata}
-use Rattle.metadata.specs.declared.Metadata.the-variants.{Rows, Refused}
-use Rattle.metadata.specs.Metadata.{told, Read}
+use Rattle.walk.specs.declared.Metadata.{Metadata}
+use Rattle.walk.specs.declared.Metadata.the-variants.{Rows, Refused}
+use Rattle.walk.specs.Metadata.{told, Read}
 use Rattle.listing.specs.Listing.{answerLine, recordLine, recordLines, rowLines}
 use Rattle.listing.specs.Lines.{LaysLines, Lists}
 use Rattle.listing.proofs.Lines.{lays-none, lays-more}

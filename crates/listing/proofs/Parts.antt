@@ -4,8 +4,8 @@ use mathlib.Core.Path.{_≡_, sym, ap}
 use mathlib.Core.List.{List, [], _∷_, _++_, append-assoc}
 use Rattle.foundation.specs.Text.{characters}
 use Rattle.rows.specs.declared.Row.{Row}
-use Rattle.metadata.specs.declared.Metadata.{Metadata}
-use Rattle.metadata.specs.declared.Metadata.the-variants.{Rows, Refused}
+use Rattle.walk.specs.declared.Metadata.{Metadata}
+use Rattle.walk.specs.declared.Metadata.the-variants.{Rows, Refused}
 use Rattle.text.specs.Numerals.{decimal}
 use Rattle.listing.specs.Line.{spaced, shownKey, shownGroup, columns}
 use Rattle.listing.specs.Listing.{answerLine, groupIn, rowLine}

@@ -13,8 +13,8 @@ use Rattle.foundation.specs.Text.{characters}
 use Rattle.klv.specs.declared.KLV.{KLV}
 use Rattle.reading.specs.Record.{Group, callers, named}
 use Rattle.rows.specs.declared.Row.{Row}
-use Rattle.metadata.specs.declared.Metadata.{Metadata}
-use Rattle.metadata.specs.declared.Metadata.the-variants.{Rows, Refused}
+use Rattle.walk.specs.declared.Metadata.{Metadata}
+use Rattle.walk.specs.declared.Metadata.the-variants.{Rows, Refused}
 use Rattle.text.specs.Numerals.{lastDigits, decimal}
 use Rattle.text.proofs.Decimal.{length-one, length-more}
 use Rattle.text.proofs.Spelling.{length-lastDigits}

@@ -13,9 +13,9 @@ use Rattle.rows.specs.declared.Row.{Row}
 use Rattle.rows.specs.declared.RowAt.{RowAt}
 use Rattle.rows.specs.declared.RowAt.the-variants.{Is, Outside}
 use Rattle.rows.specs.Lookup.{rowsOf}
-use Rattle.metadata.specs.declared.Metadata.{Metadata}
-use Rattle.metadata.specs.declared.Metadata.the-variants.{Rows, Refused}
-use Rattle.metadata.specs.Metadata.{told}
+use Rattle.walk.specs.declared.Metadata.{Metadata}
+use Rattle.walk.specs.declared.Metadata.the-variants.{Rows, Refused}
+use Rattle.walk.specs.Metadata.{told}
 use Rattle.text.specs.Numerals.{decimal}
 use Rattle.listing.specs.Line.{lineOf, columns}
 

@@ -1,4 +1,1 @@
-pub mod Spot
-pub mod Metadata
-pub mod Pass
 pub mod Quick

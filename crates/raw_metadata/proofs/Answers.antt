@@ -7,8 +7,8 @@ use borrow.Author.Tests.{lt-ltb, le-ltb}
 use lib.Dec.{ltb}
 use lib.ListN.{length}
 use Rattle.reading.specs.Walk.{roomOf}
-use Rattle.metadata.specs.declared.Metadata.{Metadata}
-use Rattle.metadata.specs.Metadata.{Read}
+use Rattle.walk.specs.declared.Metadata.{Metadata}
+use Rattle.walk.specs.Metadata.{Read}
 use Rattle.raw_file.specs.declared.Packet.{Packet}
 use Rattle.raw_file.specs.declared.Packets.{Packets}
 use Rattle.raw_file.specs.declared.NextPacket.the-variants.{Next, End}

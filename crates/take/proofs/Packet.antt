@@ -8,9 +8,9 @@ use lib.ListN.{length}
 use Rattle.foundation.specs.BigEndian.{AreBytes}
 use Rattle.reading.specs.Walk.{Outcome, accepted, refused, readingOf, roomOf}
 use Rattle.reading.specs.Answer.{lent}
-use Rattle.metadata.specs.declared.Metadata.{Metadata}
-use Rattle.metadata.specs.declared.Metadata.the-variants.{Rows, Refused}
-use Rattle.metadata.specs.Metadata.{told, Read}
+use Rattle.walk.specs.declared.Metadata.{Metadata}
+use Rattle.walk.specs.declared.Metadata.the-variants.{Rows, Refused}
+use Rattle.walk.specs.Metadata.{told, Read}
 use Rattle.listing.specs.Listing.{answerLine, rowLines}
 use Rattle.listing.specs.Lines.{LaysLines, Lists}
 use Rattle.listing.proofs.Listed.{lists-rows, lists-refused}

@@ -10,8 +10,8 @@ use Rattle.foundation.specs.Text.{characters}
 use Rattle.reading.specs.Refusal.{tooLong}
 use Rattle.reading.specs.Walk.{Outcome, accepted, refused, readingOf, roomOf}
 use Rattle.reading.specs.Answer.{lent}
-use Rattle.metadata.specs.declared.Metadata.{Metadata}
-use Rattle.metadata.specs.declared.Metadata.the-variants.{Rows, Refused}
+use Rattle.walk.specs.declared.Metadata.{Metadata}
+use Rattle.walk.specs.declared.Metadata.the-variants.{Rows, Refused}
 use Rattle.text.specs.Numerals.{decimal}
 use Rattle.listing.specs.Listing.{listing}
 use Rattle.listing.specs.Lines.{laidLines, behindLines}

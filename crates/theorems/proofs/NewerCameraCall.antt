@@ -16,9 +16,9 @@ use Rattle.reading.specs.Record.{Record, numbers, rowWidth}
 use Rattle.reading.specs.Walk.{Outcome, accepted, refused, readingOf, roomOf}
 use Rattle.metadata.proofs.parse_metadata.Kinds as call
 use Rattle.metadata.proofs.parse_metadata.Reads as promise
-use Rattle.metadata.specs.declared.Metadata.{Metadata}
-use Rattle.metadata.specs.declared.Metadata.the-variants.{Rows, Refused}
-use Rattle.metadata.specs.Metadata.{told, Read}
+use Rattle.walk.specs.declared.Metadata.{Metadata}
+use Rattle.walk.specs.declared.Metadata.the-variants.{Rows, Refused}
+use Rattle.walk.specs.Metadata.{told, Read}
 use Rattle.reading.specs.Answer.{lent}
 use Rattle.newer_camera.specs.PutIn.{PutIn}
 use Rattle.newer_camera.specs.Rows.{newRows, putBefore, movedBy, moved}

@@ -1,0 +1,4 @@
+pub mod Claims
+pub mod Written
+pub mod Passes
+pub mod Cases
