@@ -43,7 +43,7 @@ extern "C" {
 #define GPMF_BAD_AXES UINT32_C(9)        /* the strings of axes are not three ASCII characters each */
 #define GPMF_BAD_MATRIX UINT32_C(10)     /* a matrix is not nine numbers, or has a row with none above 0.5 or below -0.5 */
 #define GPMF_BAD_DURATIONS UINT32_C(11)  /* a duration list is over its limits, or has a duration that is not finite */
-#define GPMF_NO_ITEM UINT32_C(12)        /* at the place asked are fewer than 8 bytes, or an item of length 0; or, for a `?`, no whole TYPE of one text at the place named */
+#define GPMF_NO_ITEM UINT32_C(12)        /* at the place asked are fewer than 8 bytes, or an item of length 0; or, for a `?`, no whole TYPE of one text with a payload at the place named */
 #define GPMF_OUTSIDE UINT32_C(13)        /* the row or the column asked lies outside the value */
 
 /* ---- limits and fixed numbers */
@@ -342,7 +342,7 @@ gpmf_item_answer gpmf_klv_at(const uint8_t *s, size_t s_len, size_t at, size_t t
 /* Which part of s the item's own payload is: s + start, `length` bytes. Refused as gpmf_klv_at. */
 gpmf_part_answer gpmf_bytes_at(const uint8_t *s, size_t s_len, size_t at, size_t type_at);
 
-/* Which part of s the text of a row is, without the zeros behind it. Refused as gpmf_columns_at; with 13 too where the value is no text. */
+/* Which part of s the text of a row is: of one text without the zeros behind it, of several up to the first zero. Refused as gpmf_columns_at; with 13 too where the value is no text. */
 gpmf_part_answer gpmf_text_at(const uint8_t *s, size_t s_len, size_t at, size_t type_at, size_t row);
 
 /* ---- items */
@@ -445,8 +445,8 @@ gpmf_quaternion gpmf_scaled(int16_t w, int16_t x, int16_t y, int16_t z, double s
 /* 0 less x in 16 bits: -32768 stays. */
 int16_t gpmf_negated(int16_t x);
 
-/* The axes of a group by its MTRX, or where it has none by its ORIN and ORIO. GPMF_NOTHING where it has not these, MTRX does not have two or more than
- * four f or q numbers a row, or ORIN or ORIO is not one text. Refused with 2 or 12 of one of them; with 9 or 10, at place 0, as the calls on axes below. */
+/* The axes of a group by its MTRX, or where it has none by its ORIN and ORIO. GPMF_NOTHING where it has not these, where a row of MTRX
+ * is not f or q numbers, two of them or five and more, or where ORIN or ORIO is not one text. Refused with 2 or 12 of one of them; with 9 or 10, at place 0, as the calls on axes below. */
 gpmf_axes_answer gpmf_orientation_of_group(const uint8_t *payload, size_t payload_len, const uint32_t *rows, size_t rows_len, size_t count, uint32_t group_kind, uint32_t group_key);
 
 /* Milliseconds for a reading, on average over as many packets as the shortest list has: readings, whether stamped (not 0), stamps in microseconds, durations in
@@ -500,7 +500,7 @@ size_t gpmf_list(const uint8_t *payload, size_t payload_len, uint32_t *rows, siz
 /* The first line of a listing. */
 size_t gpmf_put_answer(uint8_t *out, size_t out_len, size_t at, gpmf_metadata_answer answer);
 
-/* A line for each of the first `count` rows. */
+/* A line for each of the first `count` rows that rows_len has room for. */
 size_t gpmf_put_rows(uint8_t *out, size_t out_len, size_t at, const uint32_t *rows, size_t rows_len, size_t count);
 
 /* A packet of a take: its line, its listing, and where it is refused the listing of what stands before the place; with `whole`, nothing of a refused one. The rows

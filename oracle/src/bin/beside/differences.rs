@@ -9,7 +9,7 @@ use published::gopro::{
     GoPro,
     klv::{KLV, probe},
 };
-use published::plain::{Plain, ReadBack, double};
+use published::plain::{Plain, ReadBack, double, single};
 use published::tags_impl::{GroupId, TagId, TagValue, probe_rows};
 
 /// Bytes in hex, parted for the eye.
@@ -120,8 +120,8 @@ fn size_against_widths() -> Outcome {
     )
 }
 
-fn magn_has_no_tag() -> Outcome {
-    for (key, number, tag) in [(b"MAGN", 4, 0), (b"GYRO", 1, 1)] {
+fn streams_without_a_tag() -> Outcome {
+    for (key, number, tag) in [(b"MAGN", 4, 0), (b"FACE", 0, 0), (b"GYRO", 1, 1)] {
         let payload = container(b"STRM", &[&header(key, b'B', 1, 1)[..], &[0]].concat());
         let walked = published_side::walk(&payload, false);
         let entry = &walked.items[0];
@@ -341,10 +341,25 @@ fn short_quaternions_and_stamps() -> Outcome {
     listed_alone(Listed::NegativeStamp, &Input::Payload(payload))
 }
 
-const ENTRIES: [(&str, fn() -> Outcome); 22] = [
+fn rounded_q() -> Outcome {
+    both_read("41424344 71 04 0001 40000040", vec![vec![single(16384.0)]])
+}
+
+fn divisor_of_quaternions() -> Outcome {
+    for (scale, expected) in [("6c 04 0001 00000002", 2.0 / 32767.0), ("73 02 0001 0002 0000", 1.0f64)] {
+        let payload = container(b"STRM", &bytes(&format!("5343414c {scale} 434f5249 73 08 0001 0002 0000 0000 0000")));
+        let map = published_side::walk(&payload, false).map.expect("an accepted reading");
+        same("the Rust's w", &expected.to_bits(), &probe::quaternions(&map[&GroupId::CameraOrientation]).expect("quaternions")[0].w.to_bits())?;
+        let (answer, rows) = library::read(&payload, false, 16);
+        same("w", &expected.to_bits(), &library::scaled_quaternion(&payload, &rows, answer.rows, 1, u32::from_be_bytes(*b"CORI"), 0).quaternion.w.to_bits())?;
+    }
+    Ok(())
+}
+
+const ENTRIES: [(&str, fn() -> Outcome); 24] = [
     ("1, the divisor of Q", divisor_of_q),
     ("2, size against the widths of letters", size_against_widths),
-    ("3, MAGN has a group and no tag", magn_has_no_tag),
+    ("3, MAGN has a group and no tag, FACE has neither", streams_without_a_tag),
     ("4, impossible dates", impossible_dates),
     ("5, a negation that a debug build stops at", negation),
     ("6, limits of a payload", limits_of_payloads),
@@ -364,6 +379,8 @@ const ENTRIES: [(&str, fn() -> Outcome); 22] = [
     ("18, axes that are not three ASCII characters", other_axes),
     ("19, DEVC inside a packet", devc_inside),
     ("20, quaternions with too few bytes, and stamps of 2^63 or more", short_quaternions_and_stamps),
+    ("21, q in f32", rounded_q),
+    ("22, what a quaternion is divided by", divisor_of_quaternions),
 ];
 
 /// Every entry is as it says; each that is not is told.
