@@ -10,8 +10,9 @@ ghost use Rattle.text.specs.Lay.{Lays};
 ghost use Rattle.text.specs.Numerals.{decimal, lastDigits, signedDecimal};
 ghost use Rattle.line.specs.Read.{piecesOf, numberIn};
 ghost use Rattle.reading.specs.Walk.{readingOf, roomOf};
-ghost use Rattle.listing.specs.Listing.{answerLine, rowLines};
-ghost use Rattle.listing.specs.Lines.{LaysLines, Lists};
+ghost use Rattle.listing_line.specs.Line.{answerLine};
+ghost use Rattle.listing.specs.Listing.{rowLines, Lists};
+ghost use Rattle.listing_line.specs.Lines.{LaysLines};
 ghost use Rattle.take.specs.Take.{Takes, LaysAll, longPacket, totalsLine};
 ghost use Rattle.answers.specs.Answers.{toMetadata, ofNumber};
 ghost use Rattle.gpmf.specs.Lent.{DecodesAs};
@@ -101,7 +102,7 @@ pub extern "C" fn gpmf_list(payload: &[u8], rows: &mut [u32], out: &mut [u8], at
 pub extern "C" fn gpmf_put_answer(out: &mut [u8], at: usize, answer: MetadataAnswer) -> usize
     ensures { λ r. ⌜ LaysLines (answerLine (toMetadata answer) ∷ []) (now (out .entry)) at r (now (out .exit)) ⌝ }
 {
-    listing::put_answer(out, at, answers::to_metadata(answer))
+    listing_line::put_answer(out, at, answers::to_metadata(answer))
 }
 
 // Lays a line for each row.

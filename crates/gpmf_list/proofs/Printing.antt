@@ -11,9 +11,10 @@ use Rattle.reading.specs.Refusal.{tooLong}
 use Rattle.reading.specs.Walk.{Outcome, refused, readingOf, roomOf}
 use Rattle.walk.specs.Metadata.{told}
 use Rattle.walk.specs.declared.Metadata.the-variants.{Refused}
-use Rattle.listing.specs.Listing.{answerLine, recordLines}
-use Rattle.listing.specs.Lines.{LaysLines, Begins, Lists}
-use Rattle.listing.proofs.Lines.{lines-begin}
+use Rattle.listing_line.specs.Line.{answerLine}
+use Rattle.listing.specs.Listing.{recordLines, Lists}
+use Rattle.listing_line.specs.Lines.{LaysLines, Begins}
+use Rattle.listing_line.proofs.Lines.{lines-begin}
 use Rattle.gpmf_list.specs.Printed.{heldBytes, rowNumbers, readAs, printed}
 
 module _ (s : List ℕ) where

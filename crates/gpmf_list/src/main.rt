@@ -1,6 +1,6 @@
 // Lists what the payload on standard input is read as: a line for its rows and headers and one for each row, or `refused N at P` alone.
 use metadata::Metadata;
-ghost use Rattle.listing.specs.Lines.{Begins};
+ghost use Rattle.listing_line.specs.Lines.{Begins};
 ghost use Rattle.gpmf_list.specs.Printed.{printed};
 
 // The most bytes that are held of a payload; one more tells that there are more.
@@ -41,7 +41,7 @@ fn print(payload: &[u8], rows: &mut [u32; 16384], out: &mut [u8; 131072]) -> usi
             number: TOO_LONG,
             place: 0,
         };
-        return listing::put_answer(out, 0, answer);
+        return listing_line::put_answer(out, 0, answer);
     }
     listing::list(payload, rows, out, 0)
 }

@@ -14,8 +14,9 @@ use Rattle.klv.specs.OneText.{oneText, typeText}
 use Rattle.reading.specs.Last.{lastItem}
 use Rattle.reading.specs.Walk.{roleOf, itemOutcome, walk, readingOf}
 use Rattle.text.specs.Numerals.{decimal}
-use Rattle.listing.specs.Line.{shownKey, columns}
-use Rattle.listing.specs.Listing.{answerLine, listing}
+use Rattle.shown_key.specs.Key.{shownKey}
+use Rattle.listing_line.specs.Line.{columns, answerLine}
+use Rattle.listing.specs.Listing.{listing}
 
 -- a payload, by how many bytes it has and by its bytes in hex, and its listing
 pub data Case : Type 0 where

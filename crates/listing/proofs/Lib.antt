@@ -1,8 +1,4 @@
-pub mod Joining
-mod Visible
-mod Parts
-pub mod Short
-pub mod Lines
+mod RowLines
 pub mod Records
 pub mod Listed
 pub mod Cases

@@ -13,9 +13,10 @@ use Rattle.reading.proofs.Bounds.{read-bound}
 use Rattle.walk.specs.declared.Metadata.{Metadata}
 use Rattle.walk.specs.declared.Metadata.the-variants.{Rows, Refused}
 use Rattle.walk.specs.Metadata.{told, Read}
-use Rattle.listing.specs.Listing.{answerLine, recordLine, recordLines, rowLines}
-use Rattle.listing.specs.Lines.{LaysLines, Lists}
-use Rattle.listing.proofs.Lines.{lays-none, lays-more}
+use Rattle.listing_line.specs.Line.{answerLine}
+use Rattle.listing.specs.Listing.{recordLine, recordLines, rowLines, Lists}
+use Rattle.listing_line.specs.Lines.{LaysLines}
+use Rattle.listing_line.proofs.Lines.{lays-none, lays-more}
 use Rattle.listing.proofs.Records.{record-written, lines-of-records}
 
 -- no more lines below the first than there is room for rows

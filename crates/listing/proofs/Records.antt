@@ -18,8 +18,8 @@ use Rattle.rows.specs.declared.Row.{Row}
 use Rattle.rows.specs.Row.{taken}
 use Rattle.rows.specs.Lookup.{rowsOf}
 use Rattle.rows.proofs.Search.{rows-of-records}
-use Rattle.listing.specs.Line.{columns}
-use Rattle.listing.specs.Listing.{recordLine, groupIn, headerIn, rowLine, rowLines}
+use Rattle.listing_line.specs.Line.{columns, groupIn, headerIn, rowLine}
+use Rattle.listing.specs.Listing.{recordLine, rowLines}
 
 -- ---- a record and its row
 

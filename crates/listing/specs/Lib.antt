@@ -1,3 +1,1 @@
-pub mod Line
 pub mod Listing
-pub mod Lines

@@ -1,25 +1,21 @@
-// The listing of a payload, laid into a lent buffer: its first line, and a line for each row. A line is laid whole or not at all.
-mod word;
-
+// The listing of a payload, laid into a lent buffer: its first line, and a line for each row.
 use metadata::Metadata;
-use rows::Row;
 use rows::RowAt;
 ghost use mathlib.Core.Path.{_≡_};
 ghost use Prim.Native.Nat.{min};
 ghost use mathlib.Core.Bool.{false};
-ghost use mathlib.Core.List.{[], _∷_};
 ghost use lib.ListN.{length};
 ghost use Rattle.reading.specs.Walk.{readingOf, roomOf};
 ghost use Rattle.rows.specs.Row.{rowAt};
-ghost use Rattle.listing.specs.Listing.{answerLine, rowLine, lineAt, rowLines};
-ghost use Rattle.listing.specs.Lines.{LaysLines, Lists};
+ghost use Rattle.listing_line.specs.Lines.{LaysLines};
+ghost use Rattle.listing.specs.Listing.{lineAt, rowLines, Lists};
 
 // Lays the listing of a payload; its rows go into the lent numbers.
 pub fn list(payload: &[u8], rows: &mut [u32], out: &mut [u8], at: usize) -> usize
     ensures { λ r. ⌜ Lists (readingOf false (now (payload .entry)) (roomOf (length (now (rows .entry))))) (now (rows .entry)) (now (out .entry)) at r (now (rows .exit)) (now (out .exit)) ⌝ }
 {
     let answer = metadata::parse_metadata(payload, false, rows);
-    let first = put_answer(out, at, answer);
+    let first = listing_line::put_answer(out, at, answer);
     match answer {
         Metadata::Rows {
             rows: count,
@@ -30,15 +26,6 @@ pub fn list(payload: &[u8], rows: &mut [u32], out: &mut [u8], at: usize) -> usiz
             place: _,
         } => first,
     }
-}
-
-// Lays the first line of an answer.
-pub fn put_answer(out: &mut [u8], at: usize, answer: Metadata) -> usize
-    ensures { λ r. ⌜ LaysLines (answerLine answer ∷ []) (now (out .entry)) at r (now (out .exit)) ⌝ }
-{
-    let mut line = [0u8; 64];
-    let end = word::make_answer(&mut line, answer);
-    text::put_bytes(out, at, &line[..end])
 }
 
 // Lays the lines of the first `count` rows; a row that the lent numbers have no room for has none.
@@ -60,18 +47,9 @@ fn put_row_at(out: &mut [u8], at: usize, rows: &[u32], n: usize) -> usize
     ensures { λ r. ⌜ LaysLines (lineAt (rowAt (now (rows .entry)) n)) (now (out .entry)) at r (now (out .exit)) ⌝ }
 {
     match rows::row_at(rows, n) {
-        RowAt::Is(row) => put_line(out, at, row),
+        RowAt::Is(row) => listing_line::put_line(out, at, row),
         RowAt::Outside => at,
     }
-}
-
-// Lays the line of a row.
-fn put_line(out: &mut [u8], at: usize, row: Row) -> usize
-    ensures { λ r. ⌜ LaysLines (rowLine row ∷ []) (now (out .entry)) at r (now (out .exit)) ⌝ }
-{
-    let mut line = [0u8; 64];
-    let end = word::make_row(&mut line, row);
-    text::put_bytes(out, at, &line[..end])
 }
 
 // The smaller of two.

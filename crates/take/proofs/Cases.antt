@@ -16,8 +16,8 @@ use Rattle.reading.specs.Last.{lastItem}
 use Rattle.reading.specs.Refusal.{tooLong}
 use Rattle.reading.specs.Walk.{refused, roleOf, itemOutcome, walk, readingOf}
 use Rattle.text.specs.Numerals.{decimal}
-use Rattle.listing.specs.Line.{shownKey, columns}
-use Rattle.listing.specs.Listing.{answerLine}
+use Rattle.shown_key.specs.Key.{shownKey}
+use Rattle.listing_line.specs.Line.{columns, answerLine}
 use Rattle.take.specs.Take.{packet, longPacket, totalsLine}
 
 -- a packet, by whether only accepted ones are printed, its number, its start, the room for rows, how many bytes it has, and its bytes in hex

@@ -4,9 +4,9 @@ use mathlib.Core.Path.{_≡_, refl, sym, _∙_}
 use mathlib.Core.List.{List, [], _∷_, _++_}
 use Rattle.reading.specs.Walk.{Outcome}
 use Rattle.text.specs.Lay.{Lays}
-use Rattle.listing.specs.Listing.{listing}
-use Rattle.listing.specs.Lines.{laidLines, behindLines, LaysLines, Lists}
-use Rattle.listing.proofs.Lines.{laid-more, behind-more}
+use Rattle.listing.specs.Listing.{listing, Lists}
+use Rattle.listing_line.specs.Lines.{laidLines, behindLines, LaysLines}
+use Rattle.listing_line.proofs.Lines.{laid-more, behind-more}
 use Rattle.take.specs.Take.{LaysAll}
 
 pub none : {out : List ℕ} {at : ℕ} → LaysAll [] out at at out

@@ -11,8 +11,9 @@ use Rattle.reading.specs.Answer.{lent}
 use Rattle.walk.specs.declared.Metadata.{Metadata}
 use Rattle.walk.specs.declared.Metadata.the-variants.{Rows, Refused}
 use Rattle.walk.specs.Metadata.{told, Read}
-use Rattle.listing.specs.Listing.{answerLine, rowLines}
-use Rattle.listing.specs.Lines.{LaysLines, Lists}
+use Rattle.listing_line.specs.Line.{answerLine}
+use Rattle.listing.specs.Listing.{rowLines, Lists}
+use Rattle.listing_line.specs.Lines.{LaysLines}
 use Rattle.listing.proofs.Listed.{lists-rows, lists-refused}
 use Rattle.take.specs.Take.{packetLine, leftOut, LaysAll, Fronts, Takes}
 use Rattle.take.proofs.Laying.{none, listed, more}

@@ -14,7 +14,7 @@ use Rattle.walk.specs.declared.Metadata.{Metadata}
 use Rattle.walk.specs.declared.Metadata.the-variants.{Rows, Refused}
 use Rattle.text.specs.Numerals.{decimal}
 use Rattle.listing.specs.Listing.{listing}
-use Rattle.listing.specs.Lines.{laidLines, behindLines}
+use Rattle.listing_line.specs.Lines.{laidLines, behindLines}
 
 -- ---- the parts of what is printed, one behind the other
 

@@ -35,7 +35,7 @@ pub fn put_packet(
         };
     }
     let line = put_packet_line(out, at, number, place, payload.len() as u64);
-    let first = listing::put_answer(out, line, answer);
+    let first = listing_line::put_answer(out, line, answer);
     match answer {
         Metadata::Rows {
             rows: count,
@@ -88,7 +88,7 @@ pub fn put_long_packet(
         return at;
     }
     let line = put_packet_line(out, at, number, place, bytes);
-    let refused = listing::put_answer(
+    let refused = listing_line::put_answer(
         out,
         line,
         Metadata::Refused {
@@ -97,7 +97,7 @@ pub fn put_long_packet(
         },
     );
     let front = text::put_bytes(out, refused, b"front ");
-    listing::put_answer(
+    listing_line::put_answer(
         out,
         front,
         Metadata::Rows {

@@ -229,8 +229,12 @@ use Rattle.view.proofs.View.text as view-text-promise
 use Rattle.view.proofs.View.part as view-part-promise
 use Rattle.listing.proofs.list.Kinds as list-kinds
 use Rattle.listing.proofs.list.Reads as list-reads
-use Rattle.listing.proofs.put_answer.Kinds as put-answer-kinds
-use Rattle.listing.proofs.put_answer.Reads as put-answer-reads
+use Rattle.shown_key.proofs.put_key.Kinds as put-key-kinds
+use Rattle.shown_key.proofs.put_key.Reads as put-key-reads
+use Rattle.listing_line.proofs.put_line.Kinds as put-line-kinds
+use Rattle.listing_line.proofs.put_line.Reads as put-line-reads
+use Rattle.listing_line.proofs.put_answer.Kinds as put-answer-kinds
+use Rattle.listing_line.proofs.put_answer.Reads as put-answer-reads
 use Rattle.listing.proofs.put_rows.Kinds as put-rows-kinds
 use Rattle.listing.proofs.put_rows.Reads as put-rows-reads
 use Rattle.axes.proofs.orientations_of.Kinds as orientations-of-kinds
@@ -495,6 +499,12 @@ unhex κs a x y s t p q = (p .is ∙ sym (q .is), p .leaves ∙ sym (q .leaves))
 pub piece : (κs : Lfts 1) (a : Dens κs piece-kinds.ps) (x y : resT piece-kinds.r κs .Denot) (s t : AtExit (endedOf 1 piece-kinds.ps piece-kinds.r) κs)
     → piece-reads.Learnt κs a x s → piece-reads.Learnt κs a y t → now x ≡ now y
 piece κs a x y s t p q = p ∙ sym q
+
+pub put-key : OneAnswer 1 put-key-kinds.ps put-key-kinds.r put-key-reads.Learnt (λ κs s. now (s .0))
+put-key κs a x y s t p q = (p .is ∙ sym (q .is), p .leaves ∙ sym (q .leaves))
+
+pub put-line : OneAnswer 1 put-line-kinds.ps put-line-kinds.r put-line-reads.Learnt (λ κs s. now (s .0))
+put-line κs a x y s t p q = (p .is ∙ sym (q .is), p .leaves ∙ sym (q .leaves))
 
 pub put-answer : OneAnswer 1 put-answer-kinds.ps put-answer-kinds.r put-answer-reads.Learnt (λ κs s. now (s .0))
 put-answer κs a x y s t p q = (p .is ∙ sym (q .is), p .leaves ∙ sym (q .leaves))

@@ -1,6 +1,6 @@
 -- `put_row_at` meets its contract: one line where there is a row, else none. Assumes nothing.
 use mathlib.Core.Path.{sym, _∙_}
-use Rattle.listing.proofs.Lines.{lays-none}
+use Rattle.listing_line.proofs.Lines.{lays-none}
 use borrow.Author.Needs.{needs}
 use Rattle.listing.proofs.put_row_at.Statement.{statement}
 use Rattle.listing.proofs.put_row_at.Tie as tie

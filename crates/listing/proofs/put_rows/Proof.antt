@@ -7,9 +7,10 @@ use borrow.Author.Needs.{needs}
 use lib.ListN.{length}
 use Rattle.reading.specs.Walk.{roomOf}
 use Rattle.rows.specs.Lookup.{rowsOf}
-use Rattle.listing.specs.Listing.{rowLine}
-use Rattle.listing.specs.Lines.{LaysLines}
-use Rattle.listing.proofs.Lines.{lays-none, lays-row}
+use Rattle.listing_line.specs.Line.{rowLine}
+use Rattle.listing_line.specs.Lines.{LaysLines}
+use Rattle.listing_line.proofs.Lines.{lays-none}
+use Rattle.listing.proofs.RowLines.{lays-row}
 use Rattle.listing.proofs.put_rows.Statement.{statement}
 use Rattle.listing.proofs.put_rows.Tie as tie
 
