@@ -12,4 +12,5 @@ pub mod Count
 pub mod Bounds
 pub mod Stand
 pub mod Front
+pub mod ChainFront
 pub mod Cases

@@ -6,6 +6,7 @@ use mathlib.Core.Bool.{Bool, cond}
 use lib.Dec.{ltb}
 use lib.ListN.{length}
 use Rattle.klv.specs.Level.{Level, left, broken, node, itemsOf}
+use Rattle.reading.specs.Last.{Last, none, last, stopped}
 use Rattle.reading.specs.Record.{Record}
 use Rattle.reading.specs.Walk.{Spot, outermost, after, Outcome, accepted, refused, walkItem}
 
@@ -26,3 +27,9 @@ madeBefore place forced (node h payload within behind) here room =
 -- THE RECORDS that the walk of a payload has made before a place
 abbrev pub recordsBefore : ℕ → Bool → List ℕ → ℕ → List Record
 recordsBefore place forced s room = madeBefore place forced (itemsOf s) outermost room
+
+-- the chain ends at an item, or there is none: it is not refused
+abbrev pub Told : Last → Type 0
+Told none = Unit {0}
+Told (last at h) = Unit {0}
+Told (stopped why at) = ⊥

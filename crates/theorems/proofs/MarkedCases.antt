@@ -37,7 +37,9 @@ use Rattle.values.specs.At.{elementOfFound}
 use Rattle.axes.specs.declared.Axes.{Axes}
 use Rattle.axes.specs.declared.Orientation.{Orientation}
 use Rattle.axes.specs.declared.Orientation.the-variants as orientation
-use Rattle.axes.specs.Matrix.{one, minusOne, nought, entryOf, matrixOf}
+use Rattle.axes.specs.declared.Orientations.{Orientations}
+use Rattle.axes.specs.declared.Orientations.the-variants as orientations
+use Rattle.axes.specs.Matrix.{one, minusOne, nought, threeAscii, orientationsOf, entryOf, matrixOf}
 use Rattle.axes.specs.Back.{beyond, lettered, orientationOf}
 
 -- what a case comes to
@@ -52,15 +54,20 @@ pub data Case : Type 0 where
   payload : payloads.Case → Case
   expands : String → String → Case  -- a TYPE text, and what it is written out to
   reads : List ℕ → Read → Case  -- an item, and its first element
-  turns : Axes → Axes → List (List Float) → Case  -- ORIN and ORIO, and their matrix
+  turns : String → String → List (List Float) → Case  -- the texts of ORIN and ORIO, and their matrix
   names : List (List Float) → Axes → Case  -- a matrix, and the axes that it names
+
+-- the matrix of ORIN and ORIO, or their refusal
+abbrev ofTexts : Orientations → Result
+ofTexts (orientations.Are orin orio) = matrix (matrixOf orin orio)
+ofTexts (orientations.Refused number place) = axes (orientation.Refused number place)
 
 -- what the definitions come to
 abbrev pub comes : Case → Result
 comes (payload c) = answers (payloads.comes c)
 comes (expands given said) = text (expanded (characters given))
 comes (reads item said) = element (elementOfFound (foundAt item 0 4294967295) 0 0 0)
-comes (turns orin orio said) = matrix (matrixOf orin orio)
+comes (turns orin orio said) = ofTexts (orientationsOf (characters orin) (characters orio))
 comes (names given said) = axes (orientationOf given)
 
 -- what document 01 says
@@ -102,10 +109,10 @@ cases =
     ∷ reads (single "U" 16 (characters "240229120000.000")) (read.Is (Unsigned 1709208000000))
     ∷ reads (single "U" 16 (characters "230229120000.000")) (read.Is (Unsigned 0))
     -- 10
-    ∷ turns (three (code "Y") (code "x") (code "Z")) (three (code "X") (code "Y") (code "Z")) turned
+    ∷ turns "YxZ" "XYZ" turned
     ∷ names turned (three (code "y") (code "X") (code "Z"))
     ∷ [])
 
 pub marked-cases : map comes cases ≡ map says cases
-unfolding fix run found tags firstItem itemsOf oneText typeText lastItem lastReading numbers roleOf itemOutcome walk readingOf expanded goneThrough step copied readable withoutPlus foundAt planOf isQuaternions widthOf kindOf letterPlan elementAt elementOf q31-32 add div ofInt dateOf dayOf timeOf year unsigned digitsAfter millisecondsOf possibleDay possibleTime daysOfMonth daysOfMonths daysOfYear daysOfYears entryOf beyond lettered lt
+unfolding fix run found tags firstItem itemsOf oneText typeText lastItem lastReading numbers roleOf itemOutcome walk readingOf expanded goneThrough step copied readable withoutPlus foundAt planOf isQuaternions widthOf kindOf letterPlan elementAt elementOf q31-32 add div ofInt dateOf dayOf timeOf year unsigned digitsAfter millisecondsOf possibleDay possibleTime daysOfMonth daysOfMonths daysOfYear daysOfYears entryOf beyond lettered lt orientationsOf threeAscii
 marked-cases = refl
