@@ -12,11 +12,11 @@ use Rattle.axes.specs.declared.Axes.{Axes}
 use Rattle.axes.specs.declared.Orientation.{Orientation}
 use Rattle.axes.specs.declared.Orientation.the-variants.{Is, Refused}
 
--- 0.5
+-- what a column must be beyond: "above 0.5 or below -0.5" (document 01, Refusal numbers, 10)
 abbrev pub half : Float
 half = fin false 1 (negsuc 0)
 
--- -0.5
+-- and below
 abbrev pub minusHalf : Float
 minusHalf = fin true 1 (negsuc 0)
 

@@ -32,15 +32,15 @@ orientationsOf orin orio = cond (threeAscii orin && threeAscii orio) (Are (axesO
 
 -- ---- the matrix
 
--- 1
+-- "1 for the same character"
 abbrev pub one : Float
 one = fin false 1 (pos 0)
 
--- -1
+-- "-1 for the same letter in the other case"
 abbrev pub minusOne : Float
 minusOne = fin true 1 (pos 0)
 
--- 0
+-- "else 0"
 abbrev pub nought : Float
 nought = fin false 0 (pos 0)
 

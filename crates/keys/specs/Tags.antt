@@ -13,7 +13,7 @@ dataTag = 1
 abbrev pub unitTag : ℕ
 unitTag = 2
 
--- Matrix
+-- Matrix: how the axes are turned
 abbrev pub matrixTag : ℕ
 matrixTag = 3
 
@@ -29,7 +29,7 @@ timestampUsTag = 5
 abbrev pub nameTag : ℕ
 nameTag = 6
 
--- Temperature
+-- Temperature, of the camera
 abbrev pub temperatureTag : ℕ
 temperatureTag = 7
 

@@ -22,15 +22,15 @@ use Rattle.listing_line.specs.Lines.{laidLines, behindLines}
 abbrev pub countsLine : List ℕ → ℕ → List ℕ → ℕ → List ℕ → ℕ → List (List ℕ)
 countsLine one n two m three k = one ∷ decimal n ∷ two ∷ decimal m ∷ three ∷ decimal k ∷ characters "\n" ∷ []
 
--- "packet K at P bytes N": its number from 1, and its start and its length in the file
+-- `packet K at P bytes N`: its number from 1, and its start and its length in the file
 abbrev pub packetLine : ℕ → ℕ → ℕ → List (List ℕ)
 packetLine number place bytes = countsLine (characters "packet ") number (characters " at ") place (characters " bytes ") bytes
 
--- "packets A read B refused C"
+-- `packets A read B refused C`
 abbrev pub totalsLine : ℕ → ℕ → ℕ → List (List ℕ)
 totalsLine packets read not-read = countsLine (characters "packets ") packets (characters " read ") read (characters " refused ") not-read
 
--- "front rows N headers M", and the lines of the front: the bytes before the place, read with the same room
+-- `front rows N headers M`, and the lines of the front: the bytes before the place, read with the same room
 abbrev pub front : List ℕ → ℕ → ℕ → List (List ℕ)
 front payload room place = characters "front " ∷ listing (readingOf false (take place payload) room)
 
