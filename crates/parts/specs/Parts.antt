@@ -7,6 +7,7 @@ use mathlib.Core.List.{List, []}
 use lib.Dec.{eqb, ltb}
 use lib.ListN.{length, take, drop}
 use Rattle.klv.specs.declared.KLV.{KLV}
+use Rattle.klv.specs.Limits.{mostBytes}
 use Rattle.klv.specs.OneText.{oneText}
 use Rattle.texts.specs.Kept.{kept}
 use Rattle.value.specs.declared.Columns.{Columns}
@@ -58,7 +59,7 @@ textBy h (columns.Are n) at row = cond (oneText h) (At (at + 8) n) (cond (eqb (h
 -- the texts before that of a row stand in the payload, which is within the limit
 abbrev pub SmallRow : KLV → Columns → ℕ → Type 0
 SmallRow h (columns.Refused number place) row = Unit {0}
-SmallRow h (columns.Are n) row = h .«data_type» ≡ code "c" → row * h .size ≤ 1048576
+SmallRow h (columns.Are n) row = h .«data_type» ≡ code "c" → row * h .size ≤ mostBytes
 
 -- ---- the bytes of a part
 

@@ -137,7 +137,7 @@ structured letters h payload =
 -- the TYPE text is written out, to 256 characters at most (refusal 8, of `resolve_custom_type`); no TYPE, or an empty one: unknown
 abbrev pub structures : List ℕ → KLV → List ℕ → Outcome
 structures [] h payload = gridded unknown payload
-structures (c ∷ type) h payload = cond (leb (length (expanded (c ∷ type))) 256) (structured (reading (expanded (c ∷ type))) h payload) (refused (Resolved.refusal TooLong))
+structures (c ∷ type) h payload = cond (Resolved.fits (expanded (c ∷ type))) (structured (reading (expanded (c ∷ type))) h payload) (refused (Resolved.refusal TooLong))
 
 -- ---- THE VALUE
 
