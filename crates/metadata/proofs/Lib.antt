@@ -1,7 +1,6 @@
 mod Room
 mod Natural
 mod NamedRows
-mod HeaderBytes
 mod Keys
 mod QuickPass
 mod Apart

@@ -145,6 +145,12 @@ use Rattle.spot.proofs.row_of.Kinds as row-of-kinds
 use Rattle.spot.proofs.row_of.Reads as row-of-reads
 use Rattle.spot.proofs.type_after.Kinds as type-after-kinds
 use Rattle.spot.proofs.type_after.Reads as type-after-reads
+use Rattle.header_bytes.proofs.next_at.Kinds as next-at-kinds
+use Rattle.header_bytes.proofs.next_at.Reads as next-at-reads
+use Rattle.header_bytes.proofs.key_at.Kinds as key-at-kinds
+use Rattle.header_bytes.proofs.key_at.Reads as key-at-reads
+use Rattle.header_bytes.proofs.row_shape_at.Kinds as row-shape-at-kinds
+use Rattle.header_bytes.proofs.row_shape_at.Reads as row-shape-at-reads
 use Rattle.walk.proofs.walk.Kinds as walk-kinds
 use Rattle.walk.proofs.walk.Reads as walk-reads
 use Rattle.metadata.proofs.parse_metadata.Kinds as parse-metadata-kinds
@@ -461,6 +467,15 @@ row-of κs a x y s t p q = p ∙ sym q
 
 pub type-after : OneResult 0 type-after-kinds.ps type-after-kinds.r type-after-reads.Learnt
 type-after κs a x y s t p q = p ∙ sym q
+
+pub next-at : OneResult 1 next-at-kinds.ps next-at-kinds.r next-at-reads.Learnt
+next-at κs a x y s t p q = p ∙ sym q
+
+pub key-at : OneResult 1 key-at-kinds.ps key-at-kinds.r key-at-reads.Learnt
+key-at κs a x y s t p q = p ∙ sym q
+
+pub row-shape-at : OneResult 1 row-shape-at-kinds.ps row-shape-at-kinds.r row-shape-at-reads.Learnt
+row-shape-at κs a x y s t p q = p ∙ sym q
 
 pub walk : OneAnswer 2 walk-kinds.ps walk-kinds.r walk-reads.Learnt (λ κs s. now (s .1 .1 .0))
 walk κs a x y s t p q = (p .is ∙ sym (q .is), p .rows ∙ sym (q .rows))
