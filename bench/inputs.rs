@@ -91,7 +91,8 @@ pub fn hard_files() -> Vec<(&'static str, Vec<u8>)> {
         ("`DEV`, over and over", over_and_over(b"DEV")),
         ("`D--C`, over and over", over_and_over(b"D--C")),
         ("`DDDCCC`, over and over: at every second place a `D` with a `C` three behind", over_and_over(b"DDDCCC")),
-        ("`D--C-EV-`, over and over: no filter of ours passes a block of it", over_and_over(b"D--C-EV-")),
+        ("`D--C-EV-`, over and over", over_and_over(b"D--C-EV-")),
+        ("`DEV-EVC-D--C-`, over and over: no filter of ours passes a block of it", over_and_over(b"DEV-EVC-D--C-")),
         ("`DEVCxxxx`, over and over", over_and_over(b"DEVCxxxx")),
         ("`DEVC` at each distance of 4 to 512, `D--C` between", all_distances()),
     ]

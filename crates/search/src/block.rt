@@ -1,4 +1,4 @@
-// The place in a block of 128 places where DEVC begins first.
+// The place in a block where DEVC begins first.
 use crate::Found;
 ghost use mathlib.Core.Path.{_≡_};
 ghost use mathlib.Core.Bool.{cond};
@@ -20,13 +20,13 @@ fn greater(a: u8, b: u8) -> u8
     if a < b { b } else { a }
 }
 
-// How many of 128 places are left from the first DEVC on, 0 where there is none: the greatest count is the first place's.
-fn left_from(s: &[u8], from: usize) -> u8
-    requires { ⌜ from + 131 ≤ length (now s) ⌝ }
-    ensures { λ r. ⌜ (r ≤ 128) × (findFrom (now (s .entry)) from ≡ orElse (withLeft (from + 128) r) (findFrom (now (s .entry)) (from + 128))) ⌝ }
+// How many of some places are left from the first DEVC on, 0 where there is none: the greatest count is the first place's.
+fn left_from(s: &[u8], from: usize, places: u8) -> u8
+    requires { ⌜ from + places + 3 ≤ length (now s) ⌝ }
+    ensures { λ r. ⌜ (r ≤ places) × (findFrom (now (s .entry)) from ≡ orElse (withLeft (from + places) r) (findFrom (now (s .entry)) (from + places))) ⌝ }
 {
     let mut most: u8 = 0;
-    let mut left: u8 = 128;
+    let mut left: u8 = places;
     let mut k = from;
     while 0 < left {
         most = greater(most, left_at(s, k, left));
@@ -36,20 +36,20 @@ fn left_from(s: &[u8], from: usize) -> u8
     most
 }
 
-fn count(left: u8) -> usize
-    ensures { λ r. ⌜ r ≡ left ⌝ }
+fn count(places: u8) -> usize
+    ensures { λ r. ⌜ r ≡ places ⌝ }
 {
-    left as usize
+    places as usize
 }
 
-// The first of 128 places where DEVC begins.
-pub(crate) fn in_block(s: &[u8], from: usize) -> Found
-    requires { ⌜ from + 131 ≤ length (now s) ⌝ }
-    ensures { λ r. ⌜ findFrom (now (s .entry)) from ≡ orElse r (findFrom (now (s .entry)) (from + 128)) ⌝ }
+// The first of some places where DEVC begins.
+pub(crate) fn in_block(s: &[u8], from: usize, places: u8) -> Found
+    requires { ⌜ from + places + 3 ≤ length (now s) ⌝ }
+    ensures { λ r. ⌜ findFrom (now (s .entry)) from ≡ orElse r (findFrom (now (s .entry)) (from + places)) ⌝ }
 {
-    let left = count(left_from(s, from));
+    let left = left_from(s, from, places);
     if left == 0 {
         return Found::Nothing;
     }
-    Found::At(from + 128 - left)
+    Found::At(from + count(places - left))
 }

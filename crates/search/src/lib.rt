@@ -5,7 +5,7 @@ mod filters;
 
 use filters::Filter;
 ghost use mathlib.Core.Path.{_≡_};
-ghost use Prim.Native.Nat.{_+_, _≤_};
+ghost use Prim.Native.Nat.{_+_, _≤_, min};
 ghost use lib.ListN.{length, drop};
 ghost use Rattle.search.specs.Search.{devc, begins, findFrom, orElse};
 
@@ -28,10 +28,42 @@ pub fn find_devc(file: &[u8], from: usize) -> Found
     if end <= from {
         return Found::Nothing;
     }
-    if begins_at(file, from) {
-        return Found::At(from);
+    let near = so_far(from, NEAR, end);
+    match by_place(file, from, near) {
+        Found::At(at) => Found::At(at),
+        Found::Nothing => behind(file, near, end),
     }
-    by_blocks(file, from, end)
+}
+
+// How many places are searched one by one: from the end of a DEVC those up to the one behind a packet without bytes. An even number, so that the words
+// compared behind them are not the first letters of keys: the filter takes those of DVNM for `DE`.
+const NEAR: usize = 6;
+
+// How many are then searched by small blocks, of which fewer places are compared in vain where DEVC is found.
+const SHORT: usize = 512;
+
+// So many places on, but not past the end.
+fn so_far(from: usize, places: usize, end: usize) -> usize
+    requires { ⌜ from ≤ end ⌝ }
+    ensures { λ r. ⌜ r ≡ min (from + places) end ⌝ }
+{
+    if end - from < places {
+        end
+    } else {
+        from + places
+    }
+}
+
+// The first place of from..end where DEVC begins: by small blocks, and then by great ones.
+fn behind(s: &[u8], from: usize, end: usize) -> Found
+    requires { ⌜ (from ≤ end) × (end + 3 ≤ length (now s)) ⌝ }
+    ensures { λ r. ⌜ findFrom (now (s .entry)) from ≡ orElse r (findFrom (now (s .entry)) end) ⌝ }
+{
+    let short = so_far(from, SHORT, end);
+    match by_small_blocks(s, from, short) {
+        Found::At(at) => Found::At(at),
+        Found::Nothing => by_blocks(s, short, end),
+    }
 }
 
 // Whether DEVC begins at a place: one comparison of four bytes.
@@ -57,7 +89,29 @@ fn by_place(s: &[u8], from: usize, end: usize) -> Found
     Found::Nothing
 }
 
-// The same by 128 places at a time.
+// The same by 32 places at a time.
+fn by_small_blocks(s: &[u8], from: usize, end: usize) -> Found
+    requires { ⌜ (from ≤ end) × (end + 3 ≤ length (now s)) ⌝ }
+    ensures { λ r. ⌜ findFrom (now (s .entry)) from ≡ orElse r (findFrom (now (s .entry)) end) ⌝ }
+{
+    let mut k = from;
+    while 32 <= end - k {
+        if filters::by_words(s, k, filters::FIRST, 16) {
+            match block::in_block(s, k, 32) {
+                Found::At(at) => {
+                    return Found::At(at);
+                }
+                Found::Nothing => {}
+            }
+            k += 32;
+            continue;
+        }
+        k += 32;
+    }
+    by_place(s, k, end)
+}
+
+// The same by 128 places at a time. Behind a block that was taken for one with DEVC it goes on a place earlier, where other words of two places are compared.
 fn by_blocks(s: &[u8], from: usize, end: usize) -> Found
     requires { ⌜ (from ≤ end) × (end + 3 ≤ length (now s)) ⌝ }
     ensures { λ r. ⌜ findFrom (now (s .entry)) from ≡ orElse r (findFrom (now (s .entry)) end) ⌝ }
@@ -68,19 +122,18 @@ fn by_blocks(s: &[u8], from: usize, end: usize) -> Found
         trust: 16,
     };
     while 128 <= end - k {
-        if filters::may_begin(s, k, filter.which) {
-            match block::in_block(s, k) {
-                Found::At(at) => {
-                    return Found::At(at);
-                }
-                Found::Nothing => {}
-            }
-            filter = filter.failed();
-            k += 128;
-            continue;
+        let start = filters::pass(s, k, end, filter.which);
+        if end - start < 128 {
+            return by_place(s, start, end);
         }
-        filter = filter.held();
-        k += 128;
+        match block::in_block(s, start, 128) {
+            Found::At(at) => {
+                return Found::At(at);
+            }
+            Found::Nothing => {}
+        }
+        filter = filter.failed(start - k);
+        k = start + 127;
     }
     by_place(s, k, end)
 }
