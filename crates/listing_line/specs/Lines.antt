@@ -1,6 +1,6 @@
 -- Lines laid into a lent buffer one behind the other, each whole or not at all: behind one that does not fit there is none.
 -- Assumes nothing: these are definitions.
-use Prim.Native.Nat.{ℕ, _+_, _*_, _≤_}
+use Prim.Native.Nat.{ℕ, _*_, _≤_}
 use mathlib.Core.Path.{_≡_}
 use mathlib.Core.List.{List, [], _∷_, flatten}
 use lib.ListN.{length, take}
