@@ -17,7 +17,7 @@ use Rattle.klv.specs.OneText.{typeText}
 use Rattle.klv.specs.Level.{Level}
 use Rattle.reading.specs.Refusal.{tooDeep, noRoom, deepest}
 use Rattle.reading.specs.Last.{Last, lastItem}
-use Rattle.reading.specs.Record.{named, Record}
+use Rattle.reading.specs.Record.{Group, named, Record}
 use Rattle.reading.specs.Walk.{Role, container, headersFor, Spot, inside, recordOf, refuse, groupInside}
 use Rattle.reading.specs.Walk.{Outcome, accepted, refused, inFront, andThen, around, rowOutcome, entered, byRole, itemOutcome, walk, walkItem}
 use Rattle.reading.proofs.Outcome.{around-accepted}
@@ -97,41 +97,48 @@ unfolding typeText
 not-type h n = rw (ne-eqb (h .key) (key "TYPE") n)
 
 -- A NEW ITEM makes its own row, or none where it has no payload
-pub new-grown : {padding : List ℕ} (h : KLV) (payload : List ℕ) (within : Level) (here : Spot) → IsNew h payload padding → Grown [] (ownRow here h payload) (walkItem false h payload within here)
+pub new-grown : {padding : List ℕ} (forced : Bool) (h : KLV) (payload : List ℕ) (within : Level) (here : Spot) → IsNew h payload padding
+    → Grown [] (ownRow here h payload) (walkItem forced h payload within here)
 unfolding itemOutcome
-new-grown h payload within here i = go payload (i .whole .is-long)
+new-grown forced h payload within here i = go payload (i .whole .is-long)
   where
     own : ℕ
-    own = headersFor false (here .depth)
+    own = headersFor forced (here .depth)
 
-    go : (p : List ℕ) → dataLen h ≡ length p → Grown [] (ownRow here h p) (walkItem false h p within here)
+    go : (p : List ℕ) → dataLen h ≡ length p → Grown [] (ownRow here h p) (walkItem forced h p within here)
     go [] e =
-        subst (λ (role : Role). Grown [] [] (λ room. byRole own false h [] (lastItem within (here .place + 8)) (walk false within) here room role)) (sym (role-empty h e))
+        subst (λ (role : Role). Grown [] [] (λ room. byRole own forced h [] (lastItem within (here .place + 8)) (walk forced within) here room role)) (sym (role-empty h e))
         (no-rows (λ room. accepted [] own) own (λ room. refl))
     go (b ∷ p) e =
-        subst (λ (role : Role). Grown [] (recordOf here h (b ∷ p) ∷ []) (λ room. byRole own false h (b ∷ p) (lastItem within (here .place + 8)) (walk false within) here room role))
+        subst (λ (role : Role). Grown [] (recordOf here h (b ∷ p) ∷ []) (λ room. byRole own forced h (b ∷ p) (lastItem within (here .place + 8)) (walk forced within) here room role))
         (sym (role-row h (λ z. omega arith) (i .no-container) (not-type h (i .not-type)))) (row-grown own (recordOf here h (b ∷ p)) (a-new neither))
 
--- A CONTAINER, and one like it with more inside: it is entered where the old one was, in the same group
-pub container-grown : {olds news : List Record} (own its : ℕ) (h g : KLV) (p q : List ℕ) (chain other : Last) (f w : Spot → ℕ → Outcome) (here there : Spot) (room : ℕ) (rs : List Record) (k : ℕ)
-    → there .depth ≡ here .depth → Agree chain other
-    → ((j : ℕ) → f (inside here (named (keyOf chain))) room ≡ accepted rs j → Grown olds news (w (inside there (named (keyOf chain)))))
-    → byRole own false h p chain f here room container ≡ accepted rs k → Grown olds news (λ m. byRole its false g q other w there m container)
-container-grown {olds = olds} {news = news} own its h g p q chain other f w here there room rs k same agree inner e =
-    go (eqb (here .depth) deepest) (eqb (there .depth) deepest) (λ l. rw same l) agree inner e
-  where
-    enter-grown : (name : ℕ) → ((j : ℕ) → f (inside here (named name)) room ≡ accepted rs j → Grown olds news (w (inside there (named name))))
-        → around own (here .place) (f (inside here (named name)) room) ≡ accepted rs k → Grown olds news (λ n. around its (there .place) (w (inside there (named name)) n))
-    enter-grown name i o =
-        let a = around-accepted (f (inside here (named name)) room) own (here .place) rs k o in
-        around-grown (w (inside there (named name))) its (there .place) (i (a .inner-headers) (a .is-inside))
+-- the group of a container's items, by the chain of its last item
+abbrev pub groupBy : Bool → Group → Last → Group
+groupBy true around chain = around
+groupBy false around chain = named (keyOf chain)
 
-    go : (b c : Bool) → (b ≡ false → c ≡ false) → {l m : Last} → Agree l m
-        → ((j : ℕ) → f (inside here (named (keyOf l))) room ≡ accepted rs j → Grown olds news (w (inside there (named (keyOf l)))))
-        → entered own false h p chain f here room (cond b (refuse tooDeep) (groupInside false (here .group) l)) ≡ accepted rs k
-        → Grown olds news (λ n. entered its false g q other w there n (cond c (refuse tooDeep) (groupInside false (there .group) m)))
-    go true c d a i o = let z : _≡_ {A = ℕ} 0 1 = cc in absurd (omega arith)
-    go false true d a i o = let no-way = d refl in let z : _≡_ {A = ℕ} 0 1 = cc in absurd (omega arith)
-    go false false d both-none i o = enter-grown 0 i o
-    go false false d (both-last {h = x} {g = y} key) i o = rw key (enter-grown (x .key) i o)
-    go false false d both-stopped i o = let z : _≡_ {A = ℕ} 0 1 = cc in absurd (omega arith)
+-- A CONTAINER, and one like it with more inside: it is entered where the old one was, in the same group
+pub container-grown : {olds news : List Record} (forced : Bool) (own its : ℕ) (h g : KLV) (p q : List ℕ) (chain other : Last) (f w : Spot → ℕ → Outcome) (here there : Spot) (room : ℕ) (rs : List Record) (k : ℕ)
+    → there .depth ≡ here .depth → there .group ≡ here .group → Agree chain other
+    → ((j : ℕ) → f (inside here (groupBy forced (here .group) chain)) room ≡ accepted rs j → Grown olds news (w (inside there (groupBy forced (here .group) chain))))
+    → byRole own forced h p chain f here room container ≡ accepted rs k → Grown olds news (λ m. byRole its forced g q other w there m container)
+container-grown {olds = olds} {news = news} forced own its h g p q chain other f w here there room rs k same group agree inner e =
+    go forced (eqb (here .depth) deepest) (eqb (there .depth) deepest) (λ l. rw same l) agree inner e
+  where
+    enter-grown : (x : Group) → ((j : ℕ) → f (inside here x) room ≡ accepted rs j → Grown olds news (w (inside there x)))
+        → around own (here .place) (f (inside here x) room) ≡ accepted rs k → Grown olds news (λ n. around its (there .place) (w (inside there x) n))
+    enter-grown x i o =
+        let a = around-accepted (f (inside here x) room) own (here .place) rs k o in
+        around-grown (w (inside there x)) its (there .place) (i (a .inner-headers) (a .is-inside))
+
+    go : (fo b c : Bool) → (b ≡ false → c ≡ false) → {l m : Last} → Agree l m
+        → ((j : ℕ) → f (inside here (groupBy fo (here .group) l)) room ≡ accepted rs j → Grown olds news (w (inside there (groupBy fo (here .group) l))))
+        → entered own forced h p chain f here room (cond b (refuse tooDeep) (groupInside fo (here .group) l)) ≡ accepted rs k
+        → Grown olds news (λ n. entered its forced g q other w there n (cond c (refuse tooDeep) (groupInside fo (there .group) m)))
+    go fo true c d a i o = let z : _≡_ {A = ℕ} 0 1 = cc in absurd (omega arith)
+    go fo false true d a i o = let no-way = d refl in let z : _≡_ {A = ℕ} 0 1 = cc in absurd (omega arith)
+    go true false false d a i o = rw group (enter-grown (here .group) i o)
+    go false false false d both-none i o = enter-grown (named 0) i o
+    go false false false d (both-last {h = x} {g = y} key) i o = rw key (enter-grown (named (x .key)) i o)
+    go false false false d both-stopped i o = let z : _≡_ {A = ℕ} 0 1 = cc in absurd (omega arith)

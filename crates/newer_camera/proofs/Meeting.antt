@@ -2,7 +2,7 @@
 -- nothing else. Assumes nothing.
 use Prim.Native.Nat.{ℕ, _+_, _≤_}
 use mathlib.Core.Path.{_≡_, refl, sym, ap, _∙_, subst}
-use mathlib.Core.Bool.{false}
+use mathlib.Core.Bool.{Bool}
 use mathlib.Core.List.{List, [], _∷_, map, List·Memᴰ, List·Memᴰ·head, List·Memᴰ·tail, List·Memᴰ·not-nil}
 use native.Mathlib.Decide.{decLe}
 use native.Mathlib.Omega.{arith}
@@ -50,59 +50,59 @@ module _ (f : Record → Record) where
   map-old (List·Memᴰ·tail m) = List·Memᴰ·tail (map-old m)
 
 -- a payload that is accepted is within the limit
-accepted-within : (s : List ℕ) (room : ℕ) (rs : List Record) (headers : ℕ) → readingOf false s room ≡ accepted rs headers → length s ≤ 1048576
-accepted-within s room rs headers e = go (decLe (length s) 1048576)
+accepted-within : (forced : Bool) (s : List ℕ) (room : ℕ) (rs : List Record) (headers : ℕ) → readingOf forced s room ≡ accepted rs headers → length s ≤ 1048576
+accepted-within forced s room rs headers e = go (decLe (length s) 1048576)
   where
     go : Dec (length s ≤ 1048576) → length s ≤ 1048576
     go (yes l) = l
-    go (no l) = let over = read-long false s room (omega arith) in let o : _≡_ {A = ℕ} 0 1 = cc in absurd (omega arith)
+    go (no l) = let over = read-long forced s room (omega arith) in let o : _≡_ {A = ℕ} 0 1 = cc in absurd (omega arith)
 
-module _ {s t : List ℕ} (put : PutIn s t) (room : ℕ) (rs : List Record) (headers : ℕ) (e : readingOf false s room ≡ accepted rs headers) where
+module _ (forced : Bool) {s t : List ℕ} (put : PutIn s t) (room : ℕ) (rs : List Record) (headers : ℕ) (e : readingOf forced s room ≡ accepted rs headers) where
   -- the walk of the new bytes, as the room goes
-  grown : Grown (map (moved put) rs) (newRows put) (walk false (itemsOf t) outermost)
+  grown : Grown (map (moved put) rs) (newRows forced put) (walk forced (itemsOf t) outermost)
   grown =
-      grow (putBefore put 0) put outermost outermost 0 (record { depth = refl; group = refl; type = refl }) refl (λ c l m. omega arith) room rs headers (read-accepted false s room rs headers e)
+      grow forced (putBefore put 0) put outermost outermost 0 (record { depth = refl; group = refl; type = refl }) refl (λ c l m. omega arith) room rs headers (read-accepted forced s room rs headers e)
 
   -- an old row of the accepted reading
-  old-kept : (lent : ℕ) (rows : List Record) (k : ℕ) → length t ≤ 1048576 → readingOf false t lent ≡ accepted rows k → Among (map (moved put) rs) (newRows put) rows
+  old-kept : (lent : ℕ) (rows : List Record) (k : ℕ) → length t ≤ 1048576 → readingOf forced t lent ≡ accepted rows k → Among (map (moved put) rs) (newRows forced put) rows
       → (r : Record) → List·Memᴰ r rs → Kept s t r (moved put r)
   unfolding movedBy
   old-kept lent rows k short made among r m =
-      let here : Stands s r = read-stands false s room rs headers e r m in
-      let there : Stands t (moved put r) = read-stands false t lent rows k made (moved put r) (among-old among (map-old (moved put) m)) in
+      let here : Stands s r = read-stands forced s room rs headers e r m in
+      let there : Stands t (moved put r) = read-stands forced t lent rows k made (moved put r) (among-old among (map-old (moved put) m)) in
       record {
         content = refl;
         bytes = there .item .payload-is;
         type-text = text-moved (putBefore put 0) (r .type);
-        value-before = found-there s (accepted-within s room rs headers e) r here;
+        value-before = found-there s (accepted-within forced s room rs headers e) r here;
         value-now = found-there t short (moved put r) there ∙ value-moved (putBefore put 0) r;
       }
 
   -- HOW IT IS MET, with whatever room is lent
-  pub met : (lent : ℕ) → Met put rs lent (readingOf false t lent)
+  pub met : (lent : ℕ) → Met forced put rs lent (readingOf forced t lent)
   met lent = by-length (decLe (length t) 1048576)
     where
-      so : (o : Outcome) → readingOf false t lent ≡ o → Met put rs lent o → Met put rs lent (readingOf false t lent)
-      so o is m = subst (λ (x : Outcome). Met put rs lent x) (sym is) m
+      so : (o : Outcome) → readingOf forced t lent ≡ o → Met forced put rs lent o → Met forced put rs lent (readingOf forced t lent)
+      so o is m = subst (λ (x : Outcome). Met forced put rs lent x) (sym is) m
 
-      all-rows : length (grown .rows) ≡ length rs + length (newRows put)
+      all-rows : length (grown .rows) ≡ length rs + length (newRows forced put)
       all-rows = let n = among-length (grown .among) in let m = map-length (moved put) rs in omega arith
 
-      by-room : length t ≤ 1048576 → Dec (length (grown .rows) ≤ lent) → Met put rs lent (readingOf false t lent)
+      by-room : length t ≤ 1048576 → Dec (length (grown .rows) ≤ lent) → Met forced put rs lent (readingOf forced t lent)
       by-room short (yes l) =
-          let made = read-within false t lent short ∙ grown .fits lent l in
+          let made = read-within forced t lent short ∙ grown .fits lent l in
           so (accepted (grown .rows) (grown .headers)) made
           (record {
             not-too-long = short;
             enough-room = omega (arith, all-rows);
             rows-are = grown .among;
-            in-order = read-in-order false t lent (grown .rows) (grown .headers) made;
+            in-order = read-in-order forced t lent (grown .rows) (grown .headers) made;
             kept = old-kept lent (grown .rows) (grown .headers) short made (grown .among);
           })
       by-room short (no l) =
           let w = grown .over lent (omega arith) in
-          so (refused noRoom (w .0)) (read-within false t lent short ∙ w .1) (record { not-too-long = short; no-room = omega (arith, all-rows) })
+          so (refused noRoom (w .0)) (read-within forced t lent short ∙ w .1) (record { not-too-long = short; no-room = omega (arith, all-rows) })
 
-      by-length : Dec (length t ≤ 1048576) → Met put rs lent (readingOf false t lent)
+      by-length : Dec (length t ≤ 1048576) → Met forced put rs lent (readingOf forced t lent)
       by-length (yes l) = by-room l (decLe (length (grown .rows)) lent)
-      by-length (no l) = so (refused tooLong 0) (read-long false t lent (omega arith)) (omega arith)
+      by-length (no l) = so (refused tooLong 0) (read-long forced t lent (omega arith)) (omega arith)

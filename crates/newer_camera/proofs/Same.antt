@@ -57,17 +57,17 @@ module _ (by : ℕ → ℕ) where
         shown false = refl
 
     -- AN ITEM as it was
-    pub item-same : (h : KLV) (payload : List ℕ) (within : Level) (room : ℕ) (rs : List Record) (k : ℕ) → there .place ≡ here .place + by (here .place)
-        → ((group : Group) (j : ℕ) → walk false within (inside here group) room ≡ accepted rs j → Grown (map (movedBy by) rs) [] (walk false within (inside there group)))
-        → walkItem false h payload within here room ≡ accepted rs k → Grown (map (movedBy by) rs) [] (walkItem false h payload within there)
+    pub item-same : (forced : Bool) (h : KLV) (payload : List ℕ) (within : Level) (room : ℕ) (rs : List Record) (k : ℕ) → there .place ≡ here .place + by (here .place)
+        → ((group : Group) (j : ℕ) → walk forced within (inside here group) room ≡ accepted rs j → Grown (map (movedBy by) rs) [] (walk forced within (inside there group)))
+        → walkItem forced h payload within here room ≡ accepted rs k → Grown (map (movedBy by) rs) [] (walkItem forced h payload within there)
     unfolding itemOutcome
-    item-same h payload within room rs k place inner e = go (roleOf h) e
+    item-same forced h payload within room rs k place inner e = go (roleOf h) e
       where
         own : ℕ
-        own = headersFor false (here .depth)
+        own = headersFor forced (here .depth)
 
         its : ℕ
-        its = headersFor false (there .depth)
+        its = headersFor forced (there .depth)
 
         nothing : rs ≡ [] → Grown (map (movedBy by) rs) [] (λ m. accepted [] its)
         nothing none = rw none (no-rows (λ m. accepted [] its) its (λ m. refl))
@@ -78,42 +78,42 @@ module _ (by : ℕ → ℕ) where
             let one : rs ≡ recordOf here h payload ∷ [] = cc in
             rw (one, ← same-record h payload place) (row-grown its (recordOf there h payload) (an-old neither))
 
-        go : (role : Role) → byRole own false h payload (lastItem within (here .place + 8)) (walk false within) here room role ≡ accepted rs k
-            → Grown (map (movedBy by) rs) [] (λ m. byRole its false h payload (lastItem within (there .place + 8)) (walk false within) there m role)
+        go : (role : Role) → byRole own forced h payload (lastItem within (here .place + 8)) (walk forced within) here room role ≡ accepted rs k
+            → Grown (map (movedBy by) rs) [] (λ m. byRole its forced h payload (lastItem within (there .place + 8)) (walk forced within) there m role)
         go empty o = nothing (cc)
         go typeItem o = nothing (cc)
         go rowItem o = row room o
         go container o =
-            container-grown own its h h payload payload (lastItem within (here .place + 8)) (lastItem within (there .place + 8)) (walk false within) (walk false within) here there room rs k
-            (alike .depth) (agree-same within (here .place + 8) (there .place + 8)) (inner _) o
+            container-grown forced own its h h payload payload (lastItem within (here .place + 8)) (lastItem within (there .place + 8)) (walk forced within) (walk forced within) here there room rs k
+            (alike .depth) (alike .group) (agree-same within (here .place + 8) (there .place + 8)) (inner _) o
 
   -- A LEVEL as it was, in any bytes that it comes of
-  abbrev Again : Level → Type 0
-  Again level =
+  abbrev Again : Bool → Level → Type 0
+  Again forced level =
       (s : List ℕ) (here there : Spot) (δ : ℕ) → itemsOf s ≡ level → Alike here there → there .place ≡ here .place + δ
       → ((c : ℕ) → here .place ≤ c → c < here .place + length s → by c ≡ δ)
-      → (room : ℕ) (rs : List Record) (k : ℕ) → walk false level here room ≡ accepted rs k → Grown (map (movedBy by) rs) [] (walk false level there)
+      → (room : ℕ) (rs : List Record) (k : ℕ) → walk forced level here room ≡ accepted rs k → Grown (map (movedBy by) rs) [] (walk forced level there)
 
-  again-node : (h : KLV) (payload : List ℕ) (within behind : Level) → Again within → Again behind → Again (node h payload within behind)
+  again-node : (forced : Bool) (h : KLV) (payload : List ℕ) (within behind : Level) → Again forced within → Again forced behind → Again forced (node h payload within behind)
   unfolding walk
-  again-node h payload within behind inner rest s here there δ t alike moves far room rs k e =
+  again-node forced h payload within behind inner rest s here there δ t alike moves far room rs k e =
       let w = of-node s h payload within behind t in
       let n = item-lengths s h payload (w .rest) (w .is-item) in
       let is-data : length payload ≡ dataLen h = n .is-data in
       let in-s : 8 + length payload ≤ length s = n .payload in
       let its-rest = n .rest in
-      let both = node-accepted false h payload within here room behind rs k e in
+      let both = node-accepted forced h payload within here room behind rs k e in
       let here-far = far (here .place) (omega arith) (omega arith) in
       let place : there .place ≡ here .place + by (here .place) = omega arith in
-      let first = item-same here there alike h payload within room (both .first) (both .first-headers) place
+      let first = item-same here there alike forced h payload within room (both .first) (both .first-headers) place
       (λ group j q. inner payload (inside here group) (inside there group) δ (w .is-inside) (alike-inside here there alike group) (omega arith) (λ c l m. far c (omega arith) (omega arith)) room (both .first) j q)
       (both .is-first) in
       let second = rest (w .rest) (after here h payload) (after there h payload) δ (w .is-behind) (alike-after here there alike h payload place) (omega arith) (λ c l m. far c (omega arith) (omega arith))
       (room - length (both .first)) (both .second) (both .second-headers) (both .is-second) in
-      rw (both .records, map-append) (then-grown (walkItem false h payload within there) (walk false behind (after there h payload)) first second)
+      rw (both .records, map-append) (then-grown (walkItem forced h payload within there) (walk forced behind (after there h payload)) first second)
 
-  pub again : (level : Level) → Again level
+  pub again : (forced : Bool) (level : Level) → Again forced level
   unfolding walk
-  again (left n) = λ s here there δ t alike moves far room rs k e. (let none : rs ≡ [] = cc in rw none (no-rows (λ m. accepted [] 0) 0 (λ m. refl)))
-  again broken = λ s here there δ t alike moves far room rs k e. (let z : _≡_ {A = ℕ} 0 1 = cc in absurd (omega arith))
-  again (node h payload within behind) = again-node h payload within behind (again within) (again behind)
+  again forced (left n) = λ s here there δ t alike moves far room rs k e. (let none : rs ≡ [] = cc in rw none (no-rows (λ m. accepted [] 0) 0 (λ m. refl)))
+  again forced broken = λ s here there δ t alike moves far room rs k e. (let z : _≡_ {A = ℕ} 0 1 = cc in absurd (omega arith))
+  again forced (node h payload within behind) = again-node forced h payload within behind (again forced within) (again forced behind)

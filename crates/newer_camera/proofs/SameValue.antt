@@ -50,5 +50,5 @@ kept-value {r = r} {now = now} k =
     value = valueOf (r .content .header) (r .content .payload) (textFor (r .content .header) (r .type))
 
 -- OF EACH OLD ROW of a payload that is accepted with new items
-pub same-value : {s t : List ℕ} (put : PutIn s t) (rs : List Record) (room : ℕ) (rows : List Record) → Accepted put rs room rows → (r : Record) → List·Memᴰ r rs → SameValue s t r (moved put r)
-same-value put rs room rows a r m = kept-value (a .kept r m)
+pub same-value : (forced : Bool) {s t : List ℕ} (put : PutIn s t) (rs : List Record) (room : ℕ) (rows : List Record) → Accepted forced put rs room rows → (r : Record) → List·Memᴰ r rs → SameValue s t r (moved put r)
+same-value forced put rs room rows a r m = kept-value (a .kept r m)

@@ -118,10 +118,10 @@ among-total f neither = refl
 among-total f (an-old m) = let e = among-total f m in omega arith
 among-total f (a-new m) = let e = among-total f m in omega arith
 
-shows : (reads : List ℕ → ℕ → Outcome) {s t : List ℕ} (put : PutIn s t) (room : ℕ) (rs rows : List Record) (j k : ℕ) (f : Record → ℕ) → reads s room ≡ accepted rs j → reads t room ≡ accepted rows k
-    → total f rows ≢ total f (map (moved put) rs) + total f (newRows put) → MeetsNewerCameras reads → ⊥
-shows reads {s = s} {t = t} put room rs rows j k f before after no-sum meets =
-    no-sum (among-total f (subst (λ (o : Outcome). Met put rs room o) after (meets s t put room rs j before .met room) .rows-are))
+shows : (forced : Bool) (reads : List ℕ → ℕ → Outcome) {s t : List ℕ} (put : PutIn s t) (room : ℕ) (rs rows : List Record) (j k : ℕ) (f : Record → ℕ) → reads s room ≡ accepted rs j → reads t room ≡ accepted rows k
+    → total f rows ≢ total f (map (moved put) rs) + total f (newRows forced put) → MeetsNewerCameras forced reads → ⊥
+shows forced reads {s = s} {t = t} put room rs rows j k f before after no-sum meets =
+    no-sum (among-total f (subst (λ (o : Outcome). Met forced put rs room o) after (meets s t put room rs j before .met room) .rows-are))
 
 -- the group key of an old row of case 12's payload, and nothing of any other
 abbrev groupOfScale : Record → ℕ
@@ -129,21 +129,23 @@ groupOfScale r = cond (eqb (r .content .header .key) (key "SCAL")) (groupKey (r 
 
 -- THEY ARE SHUT OUT
 pub record ShutOut : Type 0 where
-  pub refusing-out : MeetsNewerCameras (reading refusing) → ⊥
-  pub leaving-out : MeetsNewerCameras (reading (made leavingOut)) → ⊥
-  pub ending-out : MeetsNewerCameras ending → ⊥
-  pub counting-out : MeetsNewerCameras (reading (made (counting 0))) → ⊥
-  pub by-first-out : MeetsNewerCameras byFirst → ⊥
-  pub forgetting-out : MeetsNewerCameras (reading (made forgetting)) → ⊥
+  pub refusing-out : MeetsNewerCameras false (reading refusing) → ⊥
+  pub leaving-out : MeetsNewerCameras false (reading (made leavingOut)) → ⊥
+  pub ending-out : MeetsNewerCameras false ending → ⊥
+  pub counting-out : MeetsNewerCameras false (reading (made (counting 0))) → ⊥
+  pub by-first-out : MeetsNewerCameras false byFirst → ⊥
+  pub forgetting-out : MeetsNewerCameras false (reading (made forgetting)) → ⊥
+  pub not-forced-out : MeetsNewerCameras true (readingOf false) → ⊥  -- one that names groups although one is forced
 
 pub shut-out : ShutOut
 unfolding fix run found tags firstItem itemsOf oneText typeText lastItem roleOf itemOutcome walk otherWalk readingOf rowsFrom putBefore movedBy
 shut-out =
     record {
       refusing-out = λ meets. meets twelve newer in-twelve 4 _ _ refl .met 4;
-      leaving-out = shows (reading (made leavingOut)) in-twelve 4 _ _ _ _ (λ (r : Record). 1) refl refl (λ z. omega arith);
-      ending-out = shows ending in-cushioned 3 _ _ _ _ (λ (r : Record). 1) refl refl (λ z. omega arith);
-      counting-out = shows (reading (made (counting 0))) in-described 3 _ _ _ _ (λ (r : Record). r .content .depth) refl refl (λ z. omega arith);
-      by-first-out = shows byFirst in-twelve 4 _ _ _ _ groupOfScale refl refl (λ z. omega arith);
-      forgetting-out = shows (reading (made forgetting)) in-described 3 _ _ _ _ (λ (r : Record). typePlace (r .type)) refl refl (λ z. omega arith);
+      leaving-out = shows false (reading (made leavingOut)) in-twelve 4 _ _ _ _ (λ (r : Record). 1) refl refl (λ z. omega arith);
+      ending-out = shows false ending in-cushioned 3 _ _ _ _ (λ (r : Record). 1) refl refl (λ z. omega arith);
+      counting-out = shows false (reading (made (counting 0))) in-described 3 _ _ _ _ (λ (r : Record). r .content .depth) refl refl (λ z. omega arith);
+      by-first-out = shows false byFirst in-twelve 4 _ _ _ _ groupOfScale refl refl (λ z. omega arith);
+      forgetting-out = shows false (reading (made forgetting)) in-described 3 _ _ _ _ (λ (r : Record). typePlace (r .type)) refl refl (λ z. omega arith);
+      not-forced-out = shows true (readingOf false) in-twelve 4 _ _ _ _ (λ (r : Record). groupKey (r .content .group)) refl refl (λ z. omega arith);
     }

@@ -2,7 +2,7 @@
 use Prim.Native.Nat.{ℕ, suc, _+_, _≤_, _<_}
 use Prim.Native.Char.{code}
 use mathlib.Core.Path.{_≡_}
-use mathlib.Core.Bool.{cond}
+use mathlib.Core.Bool.{Bool, cond}
 use mathlib.Core.List.{List, [], _∷_, map, List·Memᴰ}
 use lib.Dec.{eqb}
 use lib.ListN.{length}
@@ -62,37 +62,37 @@ abbrev pub InOrder : ℕ → ℕ → List Record → Type 0
 InOrder from end [] = Unit {0}
 InOrder from end (r ∷ rs) = (from ≤ r .place) × (r .place < end) × InOrder (suc (r .place)) end rs
 
--- ---- the reading of t with so much room, where s was read to the rows rs
+-- ---- the reading of t with so much room, where s was read to the rows rs; both with the group forced, or both with groups named by containers
 
 -- "When accepted, every old record is there in the old order .. The rest is exactly one record for each new item with a payload": that the rows which the
 -- reader gives are the old ones, moved by the bytes put in before them, and the new ones (rows-are) carries the weight
-pub record Accepted {s t : List ℕ} (put : PutIn s t) (rs : List Record) (room : ℕ) (rows : List Record) : Type 0 where
+pub record Accepted (forced : Bool) {s t : List ℕ} (put : PutIn s t) (rs : List Record) (room : ℕ) (rows : List Record) : Type 0 where
   pub not-too-long : length t ≤ mostBytes
-  pub enough-room : length rs + length (newRows put) ≤ room
-  pub rows-are : Among (map (moved put) rs) (newRows put) rows
+  pub enough-room : length rs + length (newRows forced put) ≤ room
+  pub rows-are : Among (map (moved put) rs) (newRows forced put) rows
   pub in-order : InOrder 0 (length t) rows
   pub kept : (r : Record) → List·Memᴰ r rs → Kept s t r (moved put r)
 
 -- refusal 5
-pub record TooMany {s t : List ℕ} (put : PutIn s t) (rs : List Record) (room : ℕ) : Type 0 where
+pub record TooMany (forced : Bool) {s t : List ℕ} (put : PutIn s t) (rs : List Record) (room : ℕ) : Type 0 where
   pub not-too-long : length t ≤ mostBytes
-  pub no-room : room < length rs + length (newRows put)
+  pub no-room : room < length rs + length (newRows forced put)
 
 -- "The result is accepted, unless it passes the length limit or the lent room; no other refusal occurs"
-abbrev pub Met : {s t : List ℕ} → PutIn s t → List Record → ℕ → Outcome → Type 0
-Met put rs room (accepted rows headers) = Accepted put rs room rows
-Met {t = t} put rs room (refused tooLong at) = mostBytes < length t
-Met put rs room (refused noRoom at) = TooMany put rs room
-Met put rs room (refused pastEnd at) = ⊥
-Met put rs room (refused leftOver at) = ⊥
-Met put rs room (refused tooDeep at) = ⊥
+abbrev pub Met : Bool → {s t : List ℕ} → PutIn s t → List Record → ℕ → Outcome → Type 0
+Met forced put rs room (accepted rows headers) = Accepted forced put rs room rows
+Met forced {t = t} put rs room (refused tooLong at) = mostBytes < length t
+Met forced put rs room (refused noRoom at) = TooMany forced put rs room
+Met forced put rs room (refused pastEnd at) = ⊥
+Met forced put rs room (refused leftOver at) = ⊥
+Met forced put rs room (refused tooDeep at) = ⊥
 
--- ---- a reader: what it makes of a payload, with so much room
-module _ (reads : List ℕ → ℕ → Outcome) where
+-- ---- a reader, with the group forced or not: what it makes of a payload, with so much room
+module _ (forced : Bool) (reads : List ℕ → ℕ → Outcome) where
   -- "Changing payload bytes of new items alters no old record": u is t with other payload bytes in new items
   pub record Unaltered {s t u : List ℕ} {put : PutIn s t} (o : OtherBytes s t put u) (rs : List Record) (room : ℕ) : Type 0 where
     -- u is met as t is
-    pub met : Met (putAgain o) rs room (reads u room)
+    pub met : Met forced (putAgain o) rs room (reads u room)
     -- with the same old rows, places and all: so by the definition of moving, which asks for lengths only; met says that they are what is read
     pub old-rows : map (moved (putAgain o)) rs ≡ map (moved put) rs
     -- and the very same numbers for every row, or the same refusal
@@ -100,10 +100,10 @@ module _ (reads : List ℕ → ℕ → Outcome) where
 
   -- with whatever room is lent
   pub record OldReader {s t : List ℕ} (put : PutIn s t) (rs : List Record) : Type 0 where
-    pub met : (room : ℕ) → Met put rs room (reads t room)
+    pub met : (room : ℕ) → Met forced put rs room (reads t room)
     pub unaltered : {u : List ℕ} (o : OtherBytes s t put u) (room : ℕ) → Unaltered o rs room
 
   -- AN OLD READER MEETS A NEWER CAMERA: "Take a payload accepted .. Put new items in ..". Of a payload that a reader refuses this asks nothing: a reader that
-  -- refuses everything is shut out by demand 2, and `readingOf false`, which demand 2 settles, is the one that is shown to have this property
+  -- refuses everything is shut out by demand 2, and `readingOf forced`, which demand 2 settles, is the one that is shown to have this property, with either forcing
   abbrev pub MeetsNewerCameras : Type 0
   MeetsNewerCameras = (s t : List ℕ) (put : PutIn s t) (room : ℕ) (rs : List Record) (headers : ℕ) → reads s room ≡ accepted rs headers → OldReader put rs

@@ -1,7 +1,7 @@
 -- The rows of a payload into which items were put: the old rows, moved, and the new items' own. Demand 3: "every old record is there .. The rest is
 -- exactly one record for each new item with a payload, in the group of its level." Assumes nothing: these are definitions.
 use Prim.Native.Nat.{ℕ, _+_}
-use mathlib.Core.Bool.{cond}
+use mathlib.Core.Bool.{Bool, true, false, cond}
 use mathlib.Core.List.{List, [], _∷_, _++_}
 use lib.Dec.{leb}
 use Rattle.klv.specs.declared.KLV.{KLV}
@@ -21,9 +21,10 @@ keyOf none = 0
 keyOf (last at h) = h .key
 keyOf (stopped why at) = 0
 
--- the group of the items in a payload: named by its last item
-abbrev pub groupIn : List ℕ → Group
-groupIn payload = named (keyOf (lastItem (itemsOf payload) 0))
+-- the group of the items in a container's payload: named by its last item; "with a forced group, the caller's group holds throughout", which is that around it
+abbrev pub groupIn : Bool → Group → List ℕ → Group
+groupIn true around payload = around
+groupIn false around payload = named (keyOf (lastItem (itemsOf payload) 0))
 
 -- "exactly one record for each new item with a payload"
 abbrev pub ownRow : Spot → KLV → List ℕ → List Record
@@ -31,16 +32,16 @@ ownRow here h [] = []
 ownRow here h (b ∷ payload) = recordOf here h (b ∷ payload) ∷ []
 
 -- of a level whose bytes after putting in stand at a spot
-unfoldable pub rowsFrom : {s t : List ℕ} → PutIn s t → Spot → List Record
-rowsFrom nothing here = []
-rowsFrom (new {h = h} {payload = payload} i front put) here = ownRow here h payload ++ rowsFrom put (after here h payload)
-rowsFrom (behind {h = h} {payload = payload} i put) here = rowsFrom put (after here h payload)
-rowsFrom (inside {g = g} {payload = payload} {grown = grown} i m within put) here =
-    rowsFrom within (Walk.inside here (groupIn payload)) ++ rowsFrom put (after here g grown)
+unfoldable pub rowsFrom : Bool → {s t : List ℕ} → PutIn s t → Spot → List Record
+rowsFrom forced nothing here = []
+rowsFrom forced (new {h = h} {payload = payload} i front put) here = ownRow here h payload ++ rowsFrom forced put (after here h payload)
+rowsFrom forced (behind {h = h} {payload = payload} i put) here = rowsFrom forced put (after here h payload)
+rowsFrom forced (inside {g = g} {payload = payload} {grown = grown} i m within put) here =
+    rowsFrom forced within (Walk.inside here (groupIn forced (here .group) payload)) ++ rowsFrom forced put (after here g grown)
 
 -- THE NEW ROWS of a payload
-abbrev pub newRows : {s t : List ℕ} → PutIn s t → List Record
-newRows put = rowsFrom put outermost
+abbrev pub newRows : Bool → {s t : List ℕ} → PutIn s t → List Record
+newRows forced put = rowsFrom forced put outermost
 
 -- ---- the old rows
 

@@ -3,7 +3,7 @@
 use Prim.Native.Nat.{ℕ, zero, suc, _+_, _*_, _<_, _≤_}
 use mathlib.Core.Path.{_≡_, refl, ap, subst}
 use mathlib.Core.Logic.{_⊎_, inl, inr}
-use mathlib.Core.Bool.{Bool, false}
+use mathlib.Core.Bool.{Bool}
 use mathlib.Core.List.{List, [], _∷_, _++_, map, flatMap}
 use native.Mathlib.Omega.{arith}
 use contract.Lifetimes.{Lfts}
@@ -38,18 +38,18 @@ abbrev pub butForPlaces : List ℕ → List ℕ
 butForPlaces row = take 5 (drop 1 row) ++ drop 7 row
 
 -- where n rows of the old payload were written into numbers that now hold `was`, m rows of the new one in numbers that now hold `is`
-pub record CalledRows {s t : List ℕ} (put : PutIn s t) (n : ℕ) (was : List ℕ) (room m : ℕ) (is : List ℕ) : Type 0 where
+pub record CalledRows (forced : Bool) {s t : List ℕ} (put : PutIn s t) (n : ℕ) (was : List ℕ) (room m : ℕ) (is : List ℕ) : Type 0 where
   pub not-too-long : length t ≤ mostBytes
-  pub as-many : m ≡ n + length (newRows put)
+  pub as-many : m ≡ n + length (newRows forced put)
   pub enough-room : m ≤ room
   -- the old rows as they were, in the old order, and one for each new item with a payload
-  pub rows-are : Among (map butForPlaces (rowsIn n was)) (map butForPlaces (map numbers (newRows put))) (map butForPlaces (rowsIn m is))
+  pub rows-are : Among (map butForPlaces (rowsIn n was)) (map butForPlaces (map numbers (newRows forced put))) (map butForPlaces (rowsIn m is))
 
 -- "unless it passes the length limit or the lent room; no other refusal occurs": the three cases shut each other out, so each is given then and not otherwise
-abbrev pub Called : {s t : List ℕ} → PutIn s t → ℕ → List ℕ → ℕ → Metadata → List ℕ → Type 0
-Called put n was room (Rows m headers) is = CalledRows put n was room m is
-Called {t = t} put n was room (Refused number place) is =
-    ((number ≡ 1) × (mostBytes < length t)) ⊎ ((number ≡ 5) × (length t ≤ mostBytes) × (room < n + length (newRows put)))
+abbrev pub Called : Bool → {s t : List ℕ} → PutIn s t → ℕ → List ℕ → ℕ → Metadata → List ℕ → Type 0
+Called forced put n was room (Rows m headers) is = CalledRows forced put n was room m is
+Called forced {t = t} put n was room (Refused number place) is =
+    ((number ≡ 1) × (mostBytes < length t)) ⊎ ((number ≡ 5) × (length t ≤ mostBytes) × (room < n + length (newRows forced put)))
 
 -- ---- the proof
 
@@ -65,9 +65,9 @@ unfolding numbers movedBy
 same-rows by [] = refl
 same-rows by (r ∷ rs) = ap (λ (more : List (List ℕ)). butForPlaces (numbers r) ∷ more) (same-rows by rs)
 
-module _ {s t : List ℕ} (put : PutIn s t) (rs : List Record) (old held : List ℕ) where
+module _ (forced : Bool) {s t : List ℕ} (put : PutIn s t) (rs : List Record) (old held : List ℕ) where
   -- what is met, as the caller has it
-  met-called : (room : ℕ) (o : Outcome) → Met put rs room o → Called put (length rs) (flatMap numbers rs ++ old) room (told o) (lent o held)
+  met-called : (room : ℕ) (o : Outcome) → Met forced put rs room o → Called forced put (length rs) (flatMap numbers rs ++ old) room (told o) (lent o held)
   met-called room (accepted rows headers) a =
       let all = among-length (a .rows-are) in
       let olds = map-length (moved put) rs in
@@ -83,28 +83,26 @@ module _ {s t : List ℕ} (put : PutIn s t) (rs : List Record) (old held : List 
   met-called room (refused leftOver at) never = absurd never
   met-called room (refused tooDeep at) never = absurd never
 
--- THE CALL: with the old payload answered by n rows, and the new one with whatever numbers are lent
-pub newer-camera-call : {s t : List ℕ} (put : PutIn s t) (old was : List ℕ) (n headers : ℕ) (held is : List ℕ) (answer : Metadata)
-    → Read (readingOf false s (roomOf (length old))) old (Rows n headers) was → Read (readingOf false t (roomOf (length held))) held answer is → Called put n was (roomOf (length held)) answer is
-newer-camera-call {s = s} {t = t} put old was n headers held is answer before now = go (readingOf false s (roomOf (length old))) refl (before .is) (before .rows)
+-- THE CALL: with the old payload answered by n rows, and the new one with whatever numbers are lent, both with the group forced or both without
+pub newer-camera-call : (forced : Bool) {s t : List ℕ} (put : PutIn s t) (old was : List ℕ) (n headers : ℕ) (held is : List ℕ) (answer : Metadata)
+    → Read (readingOf forced s (roomOf (length old))) old (Rows n headers) was → Read (readingOf forced t (roomOf (length held))) held answer is
+    → Called forced put n was (roomOf (length held)) answer is
+newer-camera-call forced {s = s} {t = t} put old was n headers held is answer before now = go (readingOf forced s (roomOf (length old))) refl (before .is) (before .rows)
   where
     room : ℕ
     room = roomOf (length held)
 
-    go : (o : Outcome) → readingOf false s (roomOf (length old)) ≡ o → Rows n headers ≡ told o → was ≡ lent o old → Called put n was room answer is
+    go : (o : Outcome) → readingOf forced s (roomOf (length old)) ≡ o → Rows n headers ≡ told o → was ≡ lent o old → Called forced put n was room answer is
     go (refused why at) e a w = let z : _≡_ {A = ℕ} 0 1 = cc in absurd (omega arith)
     go (accepted rs k) e a w =
         let as-many : n ≡ length rs = cc in
         rw (as-many, w, now .is, now .rows)
-        (met-called put rs (drop (length rs * rowWidth) old) held room (readingOf false t room) (newer-camera s t put (roomOf (length old)) rs k e .met room))
+        (met-called forced put rs (drop (length rs * rowWidth) old) held room (readingOf forced t room) (newer-camera forced s t put (roomOf (length old)) rs k e .met room))
 
--- the same of the promise as the prover reads it off the source of `parse_metadata`, where neither call forces a group
+-- the same of the promise as the prover reads it off the source of `parse_metadata`, where both calls force the group or neither does
 pub called : (κs : Lfts 2) (a b : Dens κs call.ps) (n headers : ℕ) (y : resT call.r κs .Denot) (u v : AtExit (endedOf 2 call.ps call.r) κs) (put : PutIn (now (a .0)) (now (b .0)))
-    → a .1 .0 ≡ false → b .1 .0 ≡ false → promise.Learnt κs a (Rows n headers) u → promise.Learnt κs b y v
-    → Called put n (now (u .1 .1 .0)) (roomOf (length (now (b .1 .1 .0)))) y (now (v .1 .1 .0))
-called κs a b n headers y u v put f g p q =
-    newer-camera-call put (now (a .1 .1 .0)) (now (u .1 .1 .0)) n headers (now (b .1 .1 .0)) (now (v .1 .1 .0)) y (unforced a (Rows n headers) u f p) (unforced b y v g q)
-  where
-    unforced : (c : Dens κs call.ps) (x : Metadata) (w : AtExit (endedOf 2 call.ps call.r) κs) → c .1 .0 ≡ false → promise.Learnt κs c x w
-        → Read (readingOf false (now (c .0)) (roomOf (length (now (c .1 .1 .0))))) (now (c .1 .1 .0)) x (now (w .1 .1 .0))
-    unforced c x w e p = subst (λ (forced : Bool). Read (readingOf forced (now (c .0)) (roomOf (length (now (c .1 .1 .0))))) (now (c .1 .1 .0)) x (now (w .1 .1 .0))) e p
+    → b .1 .0 ≡ a .1 .0 → promise.Learnt κs a (Rows n headers) u → promise.Learnt κs b y v
+    → Called (a .1 .0) put n (now (u .1 .1 .0)) (roomOf (length (now (b .1 .1 .0)))) y (now (v .1 .1 .0))
+called κs a b n headers y u v put same p q =
+    newer-camera-call (a .1 .0) put (now (a .1 .1 .0)) (now (u .1 .1 .0)) n headers (now (b .1 .1 .0)) (now (v .1 .1 .0)) y p
+    (subst (λ (forced : Bool). Read (readingOf forced (now (b .0)) (roomOf (length (now (b .1 .1 .0))))) (now (b .1 .1 .0)) y (now (v .1 .1 .0))) same q)
