@@ -3,6 +3,7 @@
 use Prim.Native.Nat.{ℕ}
 use mathlib.Core.Bool.{cond}
 use lib.Dec.{eqb}
+use Rattle.foundation.specs.Refusals as refusals
 use Rattle.klv.specs.declared.KLV.{KLV}
 use Rattle.klv.specs.declared.Header.{Header}
 use Rattle.klv.specs.declared.Header.the-variants as header
@@ -127,8 +128,8 @@ item kind number place klv = record { kind = kind; number = number; place = plac
 -- of the item at a place: refusal 12 for fewer than 8 bytes, 2 for a payload that runs past the end
 abbrev pub ofHeader : ℕ → Header → ItemAnswer
 ofHeader at (header.Item h) = item is 0 at h
-ofHeader at header.Short = item refused 12 at noKlv
-ofHeader at header.Past = item refused 2 at noKlv
+ofHeader at header.Short = item refused refusals.noItem at noKlv
+ofHeader at header.Past = item refused refusals.pastEnd at noKlv
 
 -- the last item of a level
 abbrev pub ofLastItem : LastItem → ItemAnswer

@@ -8,6 +8,7 @@ use lib.Dec.{eqb}
 use lib.IntN.{negsuc}
 use lib.Ieee.{Float, nan, fin, lt}
 use lib.ListN.{length, getD}
+use Rattle.foundation.specs.Refusals as refusals
 use Rattle.axes.specs.declared.Axes.{Axes}
 use Rattle.axes.specs.declared.Orientation.{Orientation}
 use Rattle.axes.specs.declared.Orientation.the-variants.{Is, Refused}
@@ -37,7 +38,7 @@ axisOf row =
 
 -- refusal 10 at place 0: a row with none above 0.5 or below -0.5
 unfoldable pub lettered : ℕ → ℕ → ℕ → Orientation
-lettered a b c = cond (eqb a none || eqb b none || eqb c none) (Refused 10 0) (Is (record { first = a; second = b; third = c }))
+lettered a b c = cond (eqb a none || eqb b none || eqb c none) (Refused refusals.noMatrix 0) (Is (record { first = a; second = b; third = c }))
 
 -- THE AXES of three rows
 abbrev pub orientationOf : List (List Float) → Orientation
@@ -52,4 +53,4 @@ rowsOf m = at 0 1 2 ∷ at 3 4 5 ∷ at 6 7 8 ∷ []
 
 -- THE AXES of numbers: refusal 10 at place 0, too, where there are not nine
 unfoldable pub orientationIn : List Float → Orientation
-orientationIn m = cond (eqb (length m) 9) (orientationOf (rowsOf m)) (Refused 10 0)
+orientationIn m = cond (eqb (length m) 9) (orientationOf (rowsOf m)) (Refused refusals.noMatrix 0)

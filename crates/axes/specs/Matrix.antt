@@ -8,6 +8,7 @@ use lib.Dec.{eqb, leb, ltb}
 use lib.IntN.{pos}
 use lib.Ieee.{Float, fin}
 use lib.ListN.{length, getD}
+use Rattle.foundation.specs.Refusals as refusals
 use Rattle.axes.specs.declared.Axes.{Axes}
 use Rattle.axes.specs.declared.Orientations.{Orientations}
 use Rattle.axes.specs.declared.Orientations.the-variants.{Are, Refused}
@@ -28,7 +29,7 @@ axesOf text = record { first = getD text 0 0; second = getD text 1 0; third = ge
 
 -- THE TEXTS of ORIN and ORIO: refusal 9 at place 0 where they are not three ASCII characters each
 unfoldable pub orientationsOf : List ℕ → List ℕ → Orientations
-orientationsOf orin orio = cond (threeAscii orin && threeAscii orio) (Are (axesOf orin) (axesOf orio)) (Refused 9 0)
+orientationsOf orin orio = cond (threeAscii orin && threeAscii orio) (Are (axesOf orin) (axesOf orio)) (Refused refusals.noAxes 0)
 
 -- ---- the matrix
 

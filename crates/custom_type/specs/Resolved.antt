@@ -6,6 +6,7 @@ use mathlib.Core.Bool.{Bool, true, false, cond}
 use mathlib.Core.List.{List, _++_}
 use lib.Dec.{leb}
 use lib.ListN.{length, drop}
+use Rattle.foundation.specs.Refusals as refusals
 use Rattle.custom_type.specs.Expansion.{expanded}
 use Rattle.custom_type.specs.declared.Expanded.{Expanded}
 use Rattle.custom_type.specs.declared.Expanded.the-variants.{Characters, TooLong}
@@ -13,7 +14,7 @@ use Rattle.custom_type.specs.declared.Expanded.the-variants.{Characters,
 -- document 01's number of a refusal (Refusal numbers, 8: "expanded type over 256 characters"), 0 for none
 abbrev pub refusal : Expanded → ℕ
 refusal (Characters n) = 0
-refusal TooLong = 8
+refusal TooLong = refusals.longType
 
 -- at most 256 characters
 abbrev pub fits : List ℕ → Bool

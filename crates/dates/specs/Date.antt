@@ -4,6 +4,7 @@ use mathlib.Core.Bool.{cond}
 use mathlib.Core.List.{List}
 use lib.Dec.{ltb}
 use lib.ListN.{length}
+use Rattle.foundation.specs.Refusals as refusals
 use Rattle.dates.specs.declared.Date.{Date}
 use Rattle.dates.specs.declared.Date.the-variants.{Milliseconds, TooFew, Unreadable}
 use Rattle.dates.specs.declared.fields.ReadDay.{ReadDay}
@@ -26,5 +27,5 @@ dateOf text = cond (ltb (length text) 16) TooFew (moment (dayOf text) (timeOf te
 -- document 01, Refusal numbers; 0 for none
 abbrev pub refusal : Date → ℕ
 refusal (Milliseconds n) = 0
-refusal TooFew = 6
-refusal Unreadable = 7
+refusal TooFew = refusals.tooFew
+refusal Unreadable = refusals.unreadable

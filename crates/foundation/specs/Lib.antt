@@ -1,3 +1,4 @@
 pub mod BigEndian
 pub mod Fuel
 pub mod Text
+pub mod Refusals

@@ -6,6 +6,7 @@ use mathlib.Core.Bool.{cond, _&&_}
 use mathlib.Core.List.{List, [], _∷_}
 use lib.Dec.{eqb, ltb}
 use lib.ListN.{length, drop}
+use Rattle.foundation.specs.Refusals as refusals
 use Rattle.klv.specs.declared.KLV.{KLV}
 use Rattle.klv.specs.Limits.{mostBytes, noPlace}
 use Rattle.klv.specs.Item.{headerOf, First, few, past, item, firstItem}
@@ -42,21 +43,21 @@ pub data Found : Type 0 where
 
 -- 2: the item's payload runs past the end of what was lent
 abbrev pub overIf : Named → ℕ → Found
-overIf (named type) at = stopped 2 at
-overIf bad at = stopped 12 at
+overIf (named type) at = stopped refusals.pastEnd at
+overIf bad at = stopped refusals.noItem at
 
 -- an item whose payload is all there, by the TYPE that it asks for
 abbrev pub wholeIf : Named → KLV → List ℕ → ℕ → Found
 wholeIf (named type) h payload at = found h payload type
-wholeIf bad h payload at = stopped 12 at
+wholeIf bad h payload at = stopped refusals.noItem at
 
 -- 12: no 8 header bytes or length 0 at the place asked, or no such TYPE at the place named
 abbrev pub foundBy : First → List ℕ → ℕ → ℕ → Found
-foundBy few s at typePlace = stopped 12 at
+foundBy few s at typePlace = stopped refusals.noItem at
 foundBy past s at typePlace = overIf (typeFor (headerOf (drop at s) .«data_type») s typePlace) at
-foundBy (item h [] rest) s at typePlace = stopped 12 at
+foundBy (item h [] rest) s at typePlace = stopped refusals.noItem at
 foundBy (item h (b ∷ payload) rest) s at typePlace = wholeIf (typeFor (h .«data_type») s typePlace) h (b ∷ payload) at
 
 -- 1: the payload is over the limit, at place 0
 unfoldable pub foundAt : List ℕ → ℕ → ℕ → Found
-foundAt s at typePlace = cond (ltb mostBytes (length s)) (stopped 1 0) (foundBy (firstItem (drop at s)) s at typePlace)
+foundAt s at typePlace = cond (ltb mostBytes (length s)) (stopped refusals.overLimit 0) (foundBy (firstItem (drop at s)) s at typePlace)

@@ -6,6 +6,7 @@ use mathlib.Core.Bool.{cond}
 use mathlib.Core.List.{List}
 use lib.Dec.{eqb}
 use lib.ListN.{length, take, drop}
+use Rattle.klv.specs.Item.{headerLength}
 use Rattle.klv.specs.Limits.{noPlace}
 use Rattle.items.specs.declared.TypeText.{TypeText}
 use Rattle.items.specs.declared.TypeText.the-variants as type
@@ -27,7 +28,7 @@ pub record IsPart (start end : ℕ) (s : List ℕ) : Type 0 where
 
 -- the text of a TYPE begins behind its header; where 4,294,967,295 names none, at 0
 abbrev pub textAt : ℕ → ℕ
-textAt at = cond (eqb at noPlace) 0 (at + 8)
+textAt at = cond (eqb at noPlace) 0 (at + headerLength)
 
 -- only a structure asks for it
 abbrev pub textFor : ℕ → ℕ → ℕ
@@ -59,7 +60,7 @@ pub record TypeIs (s : List ℕ) (n : Named) (from : ℕ) (r : TypeText) : Type 
 -- the places of what was found at a place, with a TYPE at another: the payload stands behind the header
 abbrev pub placesOf : At.Found → ℕ → ℕ → Found
 placesOf (found h payload text) at typePlace =
-    place.Item h (at + 8) (at + 8 + length payload) (textFor (h .«data_type») typePlace) (textFor (h .«data_type») typePlace + length text)
+    place.Item h (at + headerLength) (at + headerLength + length payload) (textFor (h .«data_type») typePlace) (textFor (h .«data_type») typePlace + length text)
 placesOf (stopped number at) asked typePlace = place.Refused number at
 
 -- what places tell

@@ -21,6 +21,10 @@ dataLen h = h .size * h .repeat
 abbrev pub aligned : ℕ → ℕ
 aligned n = (n + 3) / 4 * 4
 
+-- "The 8 of the header": a key of 4 bytes, a type byte, a size byte, a repeat of 2 (document 01, Items and the walk)
+abbrev pub headerLength : ℕ
+headerLength = 8
+
 -- what stands first in some bytes
 pub data First : Type 0 where
   few : First  -- fewer than the 8 bytes of a header
@@ -31,23 +35,23 @@ pub data First : Type 0 where
 abbrev pub behind : KLV → List ℕ → First
 behind h s = cond (leb (dataLen h) (length s)) (item h (take (dataLen h) s) (drop (aligned (dataLen h)) s)) past
 
--- what stands first: a header takes 8 bytes
+-- what stands first
 unfoldable pub firstItem : List ℕ → First
-firstItem s = cond (ltb (length s) 8) few (behind (headerOf s) (drop 8 s))
+firstItem s = cond (ltb (length s) headerLength) few (behind (headerOf s) (drop headerLength s))
 
 -- ---- at a place
 
--- the payload of the item at a place: it stands behind the header of 8 bytes
+-- the payload of the item at a place: it stands behind the header
 abbrev pub payloadAt : List ℕ → ℕ → KLV → List ℕ
-payloadAt s at h = take (dataLen h) (drop (at + 8) s)
+payloadAt s at h = take (dataLen h) (drop (at + headerLength) s)
 
 -- the end of that payload
 abbrev pub endAt : ℕ → KLV → ℕ
-endAt at h = at + 8 + dataLen h
+endAt at h = at + headerLength + dataLen h
 
 -- the place of the next item, behind the padding
 abbrev pub nextAt : ℕ → KLV → ℕ
-nextAt at h = at + 8 + aligned (dataLen h)
+nextAt at h = at + headerLength + aligned (dataLen h)
 
 -- ---- laid out
 

@@ -9,7 +9,7 @@ use mathlib.Core.List.{List, _++_}
 use lib.ListN.{length}
 use Rattle.foundation.specs.Text.{key}
 use Rattle.klv.specs.declared.KLV.{KLV}
-use Rattle.klv.specs.Item.{dataLen, aligned, Written, laidOut, Padded}
+use Rattle.klv.specs.Item.{headerLength, dataLen, aligned, Written, laidOut, Padded}
 
 -- a header for a payload: "a product that a size byte and a 16-bit repeat can write", and the payload is as long
 pub record Fits (h : KLV) (payload : List ℕ) : Type 0 where
@@ -39,7 +39,7 @@ pub record Matches (h g : KLV) (grown padding cushion : List ℕ) : Type 0 where
 
 -- an item that the walk reaches stands first in what remains of a level (document 01, Items and the walk: "While 8 bytes or more remain, read an item")
 abbrev pub Reached : List ℕ → Type 0
-Reached s = 8 ≤ length s
+Reached s = headerLength ≤ length s
 
 -- PUT IN: a level from some item on, before and after; the outermost level is the payload
 pub data PutIn : List ℕ → List ℕ → Type 0 where

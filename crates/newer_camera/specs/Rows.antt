@@ -5,7 +5,7 @@ use mathlib.Core.Bool.{Bool, true, false, cond}
 use mathlib.Core.List.{List, [], _∷_, _++_}
 use lib.Dec.{leb}
 use Rattle.klv.specs.declared.KLV.{KLV}
-use Rattle.klv.specs.Item.{dataLen, aligned, nextAt}
+use Rattle.klv.specs.Item.{headerLength, dataLen, aligned, nextAt}
 use Rattle.klv.specs.Level.{itemsOf}
 use Rattle.reading.specs.Last.{Last, none, last, stopped, lastItem}
 use Rattle.reading.specs.Record.{Group, named, TypeInForce, noType, typeAt, Record}
@@ -48,9 +48,9 @@ newRows forced put = rowsFrom forced put outermost
 -- the bytes put in at or before a place, where the level's bytes before putting in start at another
 unfoldable pub putBefore : {s t : List ℕ} → PutIn s t → ℕ → ℕ → ℕ
 putBefore nothing from place = 0
-putBefore (new {h = h} i front put) from place = cond (leb from place) (8 + aligned (dataLen h)) 0 + putBefore put from place
+putBefore (new {h = h} i front put) from place = cond (leb from place) (headerLength + aligned (dataLen h)) 0 + putBefore put from place
 putBefore (behind {h = h} i put) from place = putBefore put (nextAt from h) place
-putBefore (inside {h = h} i m within put) from place = putBefore within (from + 8) place + putBefore put (nextAt from h) place
+putBefore (inside {h = h} i m within put) from place = putBefore within (from + headerLength) place + putBefore put (nextAt from h) place
 
 -- the place of the TYPE in force, moved
 abbrev pub movedType : (ℕ → ℕ) → TypeInForce → TypeInForce

@@ -10,7 +10,7 @@ use Rattle.axes.specs.declared.Orientations.the-variants as orientations
 use Rattle.axes.specs.Matrix.{matrixOf, orientationsOf}
 use Rattle.axes.specs.Back.{orientationOf}
 use Rattle.klv.specs.declared.KLV.{KLV}
-use Rattle.klv.specs.Item.{payloadAt}
+use Rattle.klv.specs.Item.{headerLength, payloadAt}
 use Rattle.klv.specs.OneText.{oneText}
 use Rattle.texts.specs.Kept.{kept}
 use Rattle.orientation.specs.declared.Oriented.{Oriented}
@@ -32,6 +32,6 @@ byTexts s i orin o orio = cond (oneText orin && oneText orio) (byOrientations (o
 
 -- ---- what the crate's own functions say of a text besides: it stands behind the header, and ends within the payload
 pub record TextEnd (s : List ℕ) (at : ℕ) (h : KLV) (end : ℕ) : Type 0 where
-  pub is : take (end - (at + 8)) (drop (at + 8) s) ≡ textAt s at h
-  pub begins : at + 8 ≤ end
+  pub is : take (end - (at + headerLength)) (drop (at + headerLength) s) ≡ textAt s at h
+  pub begins : at + headerLength ≤ end
   pub within : end ≤ length s

@@ -6,6 +6,8 @@ use mathlib.Core.Bool.{cond}
 use mathlib.Core.List.{List, []}
 use lib.Dec.{eqb, ltb}
 use lib.ListN.{length, take, drop}
+use Rattle.foundation.specs.Refusals as refusals
+use Rattle.klv.specs.Item.{headerLength}
 use Rattle.klv.specs.declared.KLV.{KLV}
 use Rattle.klv.specs.Limits.{mostBytes}
 use Rattle.klv.specs.OneText.{oneText}
@@ -22,7 +24,7 @@ use Rattle.parts.specs.declared.Part.the-variants.{At, Refused}
 -- its payload stands behind its header of 8 bytes
 abbrev pub bytesOfFound : Found → ℕ → Part
 bytesOfFound (stopped number place) at = Refused number place
-bytesOfFound (found h payload type) at = At (at + 8) (length payload)
+bytesOfFound (found h payload type) at = At (at + headerLength) (length payload)
 
 -- ---- a text of its value
 
@@ -38,13 +40,13 @@ rowText h payload row =
 
 -- a value that is no text is refused with 13
 abbrev pub partOf : RowText → ℕ → Part
-partOf (text before bytes) at = At (at + 8 + before) (length bytes)
-partOf none at = Refused 13 at
+partOf (text before bytes) at = At (at + headerLength + before) (length bytes)
+partOf none at = Refused refusals.outside at
 
 -- the refusals of the value come first; 13 for a row outside
 abbrev pub textIn : ℕ → KLV → List ℕ → Outcome → ℕ → Part
 textIn at h payload (refused number) row = Refused number at
-textIn at h payload (readable v) row = cond (ltb row (v .rows)) (partOf (rowText h payload row) at) (Refused 13 at)
+textIn at h payload (readable v) row = cond (ltb row (v .rows)) (partOf (rowText h payload row) at) (Refused refusals.outside at)
 
 -- of what was found at a place
 abbrev pub textOfFound : Found → ℕ → ℕ → Part
@@ -54,7 +56,7 @@ textOfFound (found h payload type) at row = textIn at h payload (valueOf h paylo
 -- the same by the columns of the row: a text's columns are its kept bytes
 abbrev pub textBy : KLV → Columns → ℕ → ℕ → Part
 textBy h (columns.Refused number place) at row = Refused number place
-textBy h (columns.Are n) at row = cond (oneText h) (At (at + 8) n) (cond (eqb (h .«data_type») (code "c")) (At (at + 8 + row * h .size) n) (Refused 13 at))
+textBy h (columns.Are n) at row = cond (oneText h) (At (at + headerLength) n) (cond (eqb (h .«data_type») (code "c")) (At (at + headerLength + row * h .size) n) (Refused refusals.outside at))
 
 -- the texts before that of a row stand in the payload, which is within the limit
 abbrev pub SmallRow : KLV → Columns → ℕ → Type 0

@@ -4,6 +4,7 @@
 use Prim.Native.Nat.{ℕ, _+_, _-_, _*_}
 use mathlib.Core.List.{[]}
 use mathlib.Core.Bool.{Bool, true, false}
+use Rattle.klv.specs.Item.{headerLength}
 use Rattle.klv.specs.Level.{Level, left, broken, node}
 use Rattle.reading.specs.Refusal.{pastEnd}
 use Rattle.reading.specs.Last.{lastItem}
@@ -30,7 +31,7 @@ unfoldable pub walkCounting : Bool → Level → Spot → ℕ → Outcome
 walkCounting forced (left n) here room = accepted [] 0
 walkCounting forced broken here room = refused pastEnd (here .place)
 walkCounting forced (node h payload within behind) here room =
-    andThen (itemOutcome (readsAt (roleOf h) forced within) forced h payload (lastItem within (here .place + 8)) (walkCounting forced within) here room)
+    andThen (itemOutcome (readsAt (roleOf h) forced within) forced h payload (lastItem within (here .place + headerLength)) (walkCounting forced within) here room)
     (λ n. walkCounting forced behind (after here h payload) (room - n))
 
 -- ---- by the items

@@ -5,6 +5,7 @@ use mathlib.Core.Bool.{Bool, cond, _&&_}
 use mathlib.Core.List.{List}
 use lib.Dec.{eqb, ltb}
 use lib.ListN.{length}
+use Rattle.foundation.specs.Refusals as refusals
 use Rattle.klv.specs.Limits.{mostBytes}
 use Rattle.klv.specs.Item.{dataLen}
 use Rattle.klv.specs.Header.{headerAt}
@@ -21,9 +22,9 @@ use Rattle.tagged.specs.declared.Tagged.the-variants.{Is, Nothing, Refus
 
 -- by the header at the place: 12 for "no 8 header bytes or length 0", 2 for a payload that "runs past .. the payload's end"
 abbrev pub itemBy : Header → ℕ → Tagged
-itemBy header.Short place = Refused 12 place
-itemBy header.Past place = Refused 2 place
-itemBy (header.Item h) place = cond (eqb (dataLen h) 0) (Refused 12 place) (Is h place)
+itemBy header.Short place = Refused refusals.noItem place
+itemBy header.Past place = Refused refusals.pastEnd place
+itemBy (header.Item h) place = cond (eqb (dataLen h) 0) (Refused refusals.noItem place) (Is h place)
 
 -- the item at a place that a row names
 unfoldable pub itemAt : List ℕ → ℕ → Tagged
@@ -37,7 +38,7 @@ itemOf s rows (row.Refused number place) = Refused number place
 
 -- THE ITEM of a group and a tag; 1 comes first: "payload over the limit (place 0)"
 unfoldable pub taggedOf : List ℕ → List ℕ → ℕ → ℕ → ℕ → ℕ → ℕ → Tagged
-taggedOf s rows count groupKind groupKey tag key = cond (ltb mostBytes (length s)) (Refused 1 0) (itemOf s rows (lookupOf groupKind groupKey tag key rows count))
+taggedOf s rows count groupKind groupKey tag key = cond (ltb mostBytes (length s)) (Refused refusals.overLimit 0) (itemOf s rows (lookupOf groupKind groupKey tag key rows count))
 
 -- ONE NUMBER of a letter: "With n = size / width rounded down: repeat 1 and n 1 is single" (document 01, Values)
 unfoldable pub oneNumber : KLV → ℕ → Bool

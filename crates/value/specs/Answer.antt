@@ -2,6 +2,7 @@
 use Prim.Native.Nat.{ℕ}
 use mathlib.Core.Bool.{cond, _&&_}
 use lib.Dec.{ltb}
+use Rattle.foundation.specs.Refusals as refusals
 use Rattle.value.specs.declared.Read.{Read}
 use Rattle.value.specs.declared.Read.the-variants as read
 use Rattle.value.specs.declared.Shaped.{Shaped}
@@ -13,7 +14,7 @@ use Rattle.value.specs.Value.{Outcome, readable, refused}
 -- the element at a row and a column; refusal 13 outside the value
 abbrev pub elementIn : ℕ → Outcome → ℕ → ℕ → Read
 elementIn place (refused number) row column = read.Refused number place
-elementIn place (readable v) row column = cond (ltb row (v .rows) && ltb column (v .columns row)) (read.Is (v .element row column)) (read.Refused 13 place)
+elementIn place (readable v) row column = cond (ltb row (v .rows) && ltb column (v .columns row)) (read.Is (v .element row column)) (read.Refused refusals.outside place)
 
 -- its kind, its rows, and the columns of its first row
 abbrev pub shapeIn : ℕ → Outcome → Shaped
@@ -23,9 +24,9 @@ shapeIn place (readable v) = shaped.Is (record { kind = v .kind; rows = v .rows;
 -- the columns of a row
 abbrev pub columnsIn : ℕ → Outcome → ℕ → Columns
 columnsIn place (refused number) row = columns.Refused number place
-columnsIn place (readable v) row = cond (ltb row (v .rows)) (columns.Are (v .columns row)) (columns.Refused 13 place)
+columnsIn place (readable v) row = cond (ltb row (v .rows)) (columns.Are (v .columns row)) (columns.Refused refusals.outside place)
 
 -- the same, read off a shape: right where each row has as many columns
 abbrev pub columnsByShape : Shaped → ℕ → ℕ → Columns
 columnsByShape (shaped.Refused number at) place row = columns.Refused number at
-columnsByShape (shaped.Is shape) place row = cond (ltb row (shape .rows)) (columns.Are (shape .columns)) (columns.Refused 13 place)
+columnsByShape (shaped.Is shape) place row = cond (ltb row (shape .rows)) (columns.Are (shape .columns)) (columns.Refused refusals.outside place)

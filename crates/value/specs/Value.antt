@@ -7,6 +7,7 @@ use mathlib.Core.List.{List, [], _∷_}
 use lib.Dec.{eqb, leb}
 use lib.ListN.{length, take, drop, getD}
 use Rattle.foundation.specs.Text.{key}
+use Rattle.foundation.specs.Refusals as refusals
 use Rattle.klv.specs.declared.KLV.{KLV}
 use Rattle.klv.specs.OneText.{oneText}
 use Rattle.elements.specs.declared.Element.{Element}
@@ -42,7 +43,7 @@ pub data Outcome : Type 0 where
 
 -- refusal 6: too few bytes in the item's own payload for the value's whole shape
 abbrev pub wanting : ℕ → List ℕ → Value → Outcome
-wanting bytes payload v = cond (leb bytes (length payload)) (readable v) (refused 6)
+wanting bytes payload v = cond (leb bytes (length payload)) (readable v) (refused refusals.tooFew)
 
 -- ---- rows of elements that are all of one letter
 
@@ -101,7 +102,7 @@ abbrev pub texts : KLV → List ℕ → Outcome
 texts h payload =
     cond (areWellFormed (h .size) payload)
     (readable (record { kind = kind.Texts; rows = h .repeat; columns = λ row. length (textOf h payload row); element = placed (room h) payload }))
-    (refused 7)
+    (refused refusals.unreadable)
 
 -- ---- a date: milliseconds since 1970
 
