@@ -26,17 +26,27 @@ pub fn type_text(text: &[u8], tally: &mut Tally) -> Outcome {
     if characters > model::MOST_CHARACTERS {
         tally.outside += 1;
         tally.call(Call::ResolveCustomType, Theirs::Outside, ours(answer.kind));
-        return same("resolve_custom_type", &(REFUSED, 8, 0), &answer.told());
+        return refused_type(&answer, &out);
     }
     let theirs: Vec<char> = probe::expand(&latin1(text)).chars().collect();
     tally.call(Call::ResolveCustomType, Theirs::Answer, ours(answer.kind));
     if theirs.len() > 256 {
         tally.listed(Listed::LongType);
-        same("resolve_custom_type, the refusal", &(REFUSED, 8, 0), &answer.told())?;
-        return holds(out.iter().all(|&b| b == UNTOUCHED as u8), || "a refused TYPE text wrote".into());
+        return refused_type(&answer, &out);
     }
     same("resolve_custom_type, how many", &(IS, theirs.len() as u64), &(answer.kind, answer.value))?;
-    same("resolve_custom_type", &theirs, &out[..theirs.len()].iter().map(|&b| b as char).collect())
+    same("resolve_custom_type", &theirs, &out[..theirs.len()].iter().map(|&b| b as char).collect())?;
+    holds(untouched(&out[theirs.len()..]), || "bytes behind the letters were written".into())
+}
+
+/// A TYPE text over the limit, of which nothing is written.
+fn refused_type(answer: &library::WholeAnswer, out: &[u8]) -> Outcome {
+    same("resolve_custom_type, the refusal", &(REFUSED, 8, 0), &answer.told())?;
+    holds(untouched(out), || "a refused TYPE text wrote".into())
+}
+
+fn untouched(bytes: &[u8]) -> bool {
+    bytes.iter().all(|&b| b == UNTOUCHED as u8)
 }
 
 pub fn date(text: &[u8], tally: &mut Tally) -> Outcome {

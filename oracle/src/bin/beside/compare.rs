@@ -112,7 +112,7 @@ fn deepest(level: &[u8]) -> u32 {
         if level[at + 4] == 0 && end > at + 8 && end <= level.len() {
             most = most.max(1 + deepest(&level[at + 8..end]));
         }
-        at = at + 8 + (end - at - 8).next_multiple_of(4);
+        at = model::behind(level, at);
     }
     most
 }
@@ -156,10 +156,7 @@ pub fn keys(key: u32, tally: &mut Tally) -> Outcome {
 fn last_item(bytes: &[u8], draw: &mut Draw, tally: &mut Tally) -> Outcome {
     chain(bytes, 0, library::get_last_klv(bytes), Call::GetLastKlv, tally)?;
     let from = draw.below(bytes.len() + 1);
-    if bytes.len() <= MOST_BYTES {
-        chain(bytes, from, library::last_item(bytes, from), Call::LastItem, tally)?;
-    }
-    Ok(())
+    chain(bytes, from, library::last_item(bytes, from), Call::LastItem, tally)
 }
 
 /// The chain from a place on: the Rust is asked of the bytes from there.
@@ -172,7 +169,7 @@ fn chain(bytes: &[u8], from: usize, answer: library::ItemAnswer, call: Call, tal
         Some(_) => Theirs::Answer,
     };
     tally.call(call, side, ours(answer.kind));
-    if bytes.len() > MOST_BYTES {
+    if call == Call::GetLastKlv && bytes.len() > MOST_BYTES {
         return same("the last item of a payload over the limit", &(REFUSED, 1, 0), &answer.told()); // listed with its reading
     }
     match (side, answer.kind) {

@@ -52,7 +52,8 @@ fn both_read(payload: &str, expected: Vec<Vec<Plain>>) -> Outcome {
     let payload = bytes(payload);
     let ReadBack::Is(theirs) = their_value(&payload) else { return Err("the Rust does not read it".into()) };
     same("the Rust's value", &expected, &theirs)?;
-    same("the value", &Ok(expected), &our_value(&payload))
+    same("the value", &Ok(expected), &our_value(&payload))?;
+    listed_among(&[], &Input::Payload(payload))
 }
 
 /// The Rust fails or panics at a value, and the library refuses it with a number.
@@ -125,7 +126,8 @@ fn streams_without_a_tag() -> Outcome {
         let payload = container(b"STRM", &[&header(key, b'B', 1, 1)[..], &[0]].concat());
         let walked = published_side::walk(&payload, false);
         let entry = &walked.items[0];
-        same("the Rust's group", &published_side::group_from_key(u32::from_be_bytes(*key)).0, &number)?;
+        same("the Rust's group", &KLV::group_from_key(key), &entry.group)?;
+        same("the number of the Rust's group", &number, &published_side::group_from_key(u32::from_be_bytes(*key)).0)?;
         same("the Rust's tag", &tag, &u32::from(entry.id == TagId::Data))?;
         let row = library::row_at(&library::read(&payload, false, 8).1, 0).row;
         same("group and tag", &(u32::from_be_bytes(*key), tag, number), &(row.group_key, row.tag, library::group_from_key(row.group_key).number))?;

@@ -25,7 +25,7 @@ pub fn file(bytes: &[u8], tally: &mut Tally) -> Outcome {
     packets(bytes, from, &cuts.iter().copied().filter(|(start, _)| start - 8 >= from).collect(), tally)?;
     let forced = draw.chance(30);
     let numbers = draw.pick(&[8 * 64, 8 * 8 + 3, 8, 0]);
-    let whole = readings(bytes, forced, numbers);
+    let whole = readings(bytes, forced, numbers)?;
     same("next_metadata's packets", &cuts, &whole.iter().map(|r| (r.start, r.end)).collect())?;
     for reading in &whole {
         packet(bytes, reading, forced, numbers, tally)?;
@@ -66,13 +66,14 @@ fn packets(bytes: &[u8], from: usize, cuts: &Vec<(usize, usize)>, tally: &mut Ta
     }
 }
 
-fn readings(bytes: &[u8], forced: bool, numbers: usize) -> Vec<Reading> {
+fn readings(bytes: &[u8], forced: bool, numbers: usize) -> Result<Vec<Reading>, String> {
     let (mut found, mut cursor) = (Vec::new(), library::packets_new(0));
     loop {
         let mut rows = vec![UNTOUCHED; numbers];
         let answer = library::next_metadata(cursor, bytes, forced, &mut rows);
         if answer.kind != IS {
-            return found;
+            holds(library::untouched_behind(&rows, 0), || "next_metadata wrote behind the last packet".into())?;
+            return Ok(found);
         }
         found.push(Reading { start: answer.packet.start, end: answer.packet.end, answer: answer.metadata, rows });
         cursor = answer.rest;
@@ -132,7 +133,7 @@ impl<'a> Window<'a> {
 /// The Rust has no windows, and is not asked: what they give must be what the whole file gave.
 fn windows(bytes: &[u8], size: usize, cuts: &[(usize, usize)], whole: &[Reading], forced: bool, numbers: usize, tally: &mut Tally) -> Outcome {
     same("packets_next_in", &cuts.to_vec(), &packets_in(Window::new(bytes, size), tally))?;
-    let found = readings_in(Window::new(bytes, size), forced, numbers, tally);
+    let found = readings_in(Window::new(bytes, size), forced, numbers, tally)?;
     holds(found.len() == whole.len(), || format!("next_metadata_in finds {} packets of {}", found.len(), whole.len()))?;
     for (one, all) in found.iter().zip(whole) {
         // of a packet over the limit the end may not be known, and is 0
@@ -156,13 +157,16 @@ fn packets_in(mut window: Window, tally: &mut Tally) -> Vec<(usize, usize)> {
     }
 }
 
-fn readings_in(mut window: Window, forced: bool, numbers: usize, tally: &mut Tally) -> Vec<Reading> {
+fn readings_in(mut window: Window, forced: bool, numbers: usize, tally: &mut Tally) -> Result<Vec<Reading>, String> {
     let (mut found, mut cursor) = (Vec::new(), library::packets_new(0));
     loop {
         let mut rows = vec![UNTOUCHED; numbers];
         let answer = library::next_metadata_in(cursor, window.held(), window.more(), forced, &mut rows);
         let (start, end) = (window.base + answer.packet.start, window.base + answer.packet.end);
         tally.call(Call::NextMetadataIn, Theirs::Outside, ours(answer.kind));
+        if answer.kind != IS {
+            holds(library::untouched_behind(&rows, 0), || "next_metadata_in wrote without an accepted packet".into())?;
+        }
         match answer.kind {
             IS => found.push(Reading { start, end, answer: answer.metadata, rows }),
             REFUSED => found.push(Reading {
@@ -172,7 +176,7 @@ fn readings_in(mut window: Window, forced: bool, numbers: usize, tally: &mut Tal
                 rows,
             }),
             MORE => window.step(answer.place),
-            _ => return found,
+            _ => return Ok(found),
         }
         cursor = if answer.kind == MORE { Packets { at: 0 } } else { answer.rest };
     }

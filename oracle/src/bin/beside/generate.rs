@@ -7,43 +7,35 @@ use crate::limits;
 use crate::takes::{self, GENERATIONS};
 use published::gopro::klv::probe;
 
-macro_rules! kinds {
-    ($($kind:ident = $text:expr),* $(,)?) => {
-        /// What kind of input it is.
-        #[derive(Clone, Copy, Debug, PartialEq)]
-        pub enum Kind { $($kind),* }
-        impl Kind {
-            pub const ALL: &'static [Kind] = &[$(Kind::$kind),*];
-            pub fn text(self) -> &'static str { match self { $(Kind::$kind => $text),* } }
-        }
-    };
-}
-kinds! {
-    Sample = "samples of the GPMF description",
-    Limit = "limits of each cap: payloads",
-    Given = "packets of the raw files given",
-    Parts = "all payloads of up to five of twelve parts",
-    TwoBytes = "all payloads of up to 16 bytes 00 and 01",
-    FourBytes = "all payloads of up to 10 bytes 00, 01, 02 and 63",
-    Tree = "trees of items",
-    Deep = "trees inside 0 to 18 containers",
-    Wide = "payloads of up to 60,000 bytes",
-    Stream = "streams with stamps, scales and axes",
-    Take = "packets of each camera generation",
-    DamagedTree = "trees, damaged",
-    DamagedTake = "packets of each generation, damaged",
-    DamagedGiven = "packets of the files given, damaged",
-    Noise = "bytes of no order",
-    RawFile = "raw files, whole and damaged",
-    TypeText = "TYPE texts",
-    Date = "dates",
-    Text = "UTF-8 texts",
-    Key = "keys",
-    Axes = "ORIN and ORIO",
-    Matrix = "matrices",
-    Quaternion = "quaternions",
-    Durations = "duration lists",
-    LimitOther = "limits of each cap: files, texts, lists",
+named! {
+    /// What kind of input it is.
+    Kind {
+        Sample = "samples of the GPMF description",
+        Limit = "limits of each cap: payloads",
+        Given = "packets of the raw files given",
+        Parts = "all payloads of up to five of twelve parts",
+        TwoBytes = "all payloads of up to 16 bytes 00 and 01",
+        FourBytes = "all payloads of up to 10 bytes 00, 01, 02 and 63",
+        Tree = "trees of items",
+        Deep = "trees inside 0 to 18 containers",
+        Wide = "payloads of up to 60,000 bytes",
+        Stream = "streams with stamps, scales and axes",
+        Take = "packets of each camera generation",
+        DamagedTree = "trees, damaged",
+        DamagedTake = "packets of each generation, damaged",
+        DamagedGiven = "packets of the files given, damaged",
+        Noise = "bytes of no order",
+        RawFile = "raw files, whole and damaged",
+        TypeText = "TYPE texts",
+        Date = "dates",
+        Text = "UTF-8 texts",
+        Key = "keys",
+        Axes = "ORIN and ORIO",
+        Matrix = "matrices",
+        Quaternion = "quaternions",
+        Durations = "duration lists",
+        LimitOther = "limits of each cap: files, texts, lists",
+    }
 }
 
 /// The fixed inputs, and what the random ones are drawn from.

@@ -39,7 +39,7 @@ impl Input {
     pub fn difference(&self, tally: &mut Tally) -> Option<String> {
         match crate::published_side::caught(|| self.ask(tally)) {
             Some(outcome) => outcome.err(),
-            None => Some("the Rust panics where no entry says so".into()),
+            None => Some("the Rust, or this program, panics where no entry says so".into()),
         }
     }
 

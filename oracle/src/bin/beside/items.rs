@@ -332,7 +332,10 @@ fn matrix(draw: &mut Draw) -> Vec<u8> {
         5 => item(b"MTRX", draw.pick(b"lqLUGc?d"), 12, 3, &bytes),
         6 => item(b"MTRX", b'f', 72, 1, &[&bytes[..], &bytes].concat()),
         7 => item(b"MTRX", b'f', 36, 2, &[&bytes[..], &bytes].concat()),
-        8 => item(b"MTRX", b'f', draw.below(3) + 1, 4, &bytes[..12])[..12 + 8].to_vec(),
+        8 => {
+            let size = draw.below(3) + 1;
+            item(b"MTRX", b'f', size, 4, &bytes[..4 * size])
+        }
         _ => Vec::new(),
     }
 }

@@ -1,4 +1,7 @@
 //! beside SEED PAYLOADS [FILE ..]: the proved library and the published Rust in one process, asked the same, answer by answer. See oracle/README.md.
+#[macro_use]
+mod named;
+
 mod calls;
 mod clock;
 mod compare;

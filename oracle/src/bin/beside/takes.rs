@@ -150,7 +150,7 @@ impl Camera<'_> {
         let date = format!("240229{:02}{:02}{:02}.400", self.draw.below(24), self.draw.below(60), self.draw.below(60));
         let scales: Vec<u8> = [10_000_000i32, 10_000_000, 1000, 1000, 100].iter().flat_map(|n| n.to_be_bytes()).collect();
         let readings = item(b"GPS5", b'l', 20, count, &self.draw.bytes(20 * count));
-        let units = item(b"UNIT", b'c', 3, 5, b"deg\0deg\0m\0\0m/sm/s"[..15].as_ref());
+        let units = item(b"UNIT", b'c', 3, 5, b"degdegm\0\0m/sm/s");
         self.stream(
             b"GPS",
             count,

@@ -1,16 +1,6 @@
 //! What is counted: inputs of each kind, what each side answered to each call, and what fell under each listed difference.
 use crate::library;
 
-macro_rules! named {
-    ($(#[$doc:meta])* $name:ident { $($case:ident = $text:expr),* $(,)? }) => {
-        $(#[$doc])* #[derive(Clone, Copy, Debug, PartialEq, Eq)] pub enum $name { $($case),* }
-        impl $name {
-            pub const ALL: &'static [$name] = &[$($name::$case),*];
-            pub fn text(self) -> &'static str { match self { $($name::$case => $text),* } }
-        }
-    };
-}
-
 named! {
     /// The calls that are compared, by the header's names without their `gpmf_`.
     Call {
@@ -36,7 +26,7 @@ named! {
         GroupFromKey = "group_from_key",
         ResolveCustomType = "resolve_custom_type",
         ParseUtcdate = "parse_utcdate",
-        Utf8 = "is_utf8, utf8_len, latin1_len",
+        Utf8 = "is_utf8, are_utf8, utf8_len, latin1_len",
         StampUs = "stamp_us",
         ScaledQuaternion = "scaled_quaternion",
         OrientationOfGroup = "orientation_of_group",
@@ -94,9 +84,9 @@ pub struct Tally {
     pub listed: [u64; Listed::ALL.len()],
     pub values: u64,
     pub elements: u64,
-    /// Rooms that were lent one row too small on purpose.
+    /// Rooms that were lent too small on purpose.
     pub small_rooms: u64,
-    /// Payloads on which the Rust's process would end, so that it was not asked.
+    /// Inputs on which the Rust's process would end, so that it was not asked.
     pub outside: u64,
 }
 

@@ -33,8 +33,11 @@ pub fn value(bytes: &[u8], row: Row, value: &TagValue, draw: &mut Draw, tally: &
     };
     let rows = if variant == "Vec_Scalar" { vec![rows.concat()] } else { rows };
     same("what the value is called", &called(variant, row), &KINDS[shape.value_kind as usize])?;
+    let letter = row.klv().data_type;
+    same("is_one_number of another letter", &false, &library::is_one_number(row.klv(), letter.wrapping_add(1)))?;
+    // it looks at no key, and `s` under CORI and IORI is quaternions whatever their number
     if variant != "Vec_Quaternioni16" {
-        same("is_one_number", &(called(variant, row) == "single"), &library::is_one_number(row.klv(), row.klv().data_type))?;
+        same("is_one_number", &(called(variant, row) == "single"), &library::is_one_number(row.klv(), letter))?;
     }
     let columns = rows.first().map_or(0, Vec::len);
     same("rows and columns", &(rows.len(), columns), &(shape.rows, shape.columns))?;
@@ -95,12 +98,21 @@ fn type_characters(bytes: &[u8], row: Row) -> u64 {
     model::expanded_length(&text[..library::latin1_len(text)])
 }
 
+/// Every call that reads a value refuses it so, and all elements at once leave what is lent.
+fn refused_by_all(what: &str, refusal: Told, s: &[u8], at: usize, type_at: usize, n: usize) -> Outcome {
+    let mut numbers = [UNTOUCHED as u64; 4];
+    let all = library::elements_at(s, at, type_at, &mut numbers);
+    same(what, &[refusal; 4], &told(s, at, type_at, n, n))?;
+    same(what, &refusal, &all.told())?;
+    holds(numbers == [UNTOUCHED as u64; 4], || format!("{what}: elements_at wrote"))
+}
+
 /// A value that is refused is so by every call that reads it, at whatever row and column.
 fn refused(bytes: &[u8], row: Row, number: u32, shape: ShapeAnswer, draw: &mut Draw) -> Outcome {
     let place = row.place as usize;
     same("the value's refusal", &ShapeAnswer { kind: REFUSED, number, place, ..Default::default() }, &shape)?;
     for n in [0, draw.next() as usize >> draw.below(64)] {
-        same("the value's refusal by each call", &[(REFUSED, number, place); 4], &told(bytes, place, row.type_place as usize, n, n))?;
+        refused_by_all("the value's refusal by each call", (REFUSED, number, place), bytes, place, row.type_place as usize, n)?;
     }
     Ok(())
 }
@@ -118,7 +130,7 @@ fn elsewhere(bytes: &[u8], row: Row) -> Outcome {
         others.push(("a structure as its own TYPE", bytes, place, (REFUSED, 12, place)));
     }
     for (what, s, type_at, refusal) in others {
-        same(what, &[refusal; 4], &told(s, place, type_at, 0, 0))?;
+        refused_by_all(what, refusal, s, place, type_at, 0)?;
         same(what, &[refusal; 2], &[library::klv_at(s, place, type_at).told(), library::bytes_at(s, place, type_at).told()])?;
     }
     Ok(())
@@ -240,7 +252,7 @@ impl Value<'_> {
             tally.listed(Listed::Nan);
         }
         if n > 1 {
-            return Ok(());
+            return Ok(()); // the calls below look at the element's own bytes alone: two rows of a value are asked
         }
         tally.call(Call::ElementAt, Theirs::Answer, Ours::Is);
         same("element_at", &self.rows[n][c], &library::element_at(self.bytes, at, letter).plain())?;
