@@ -28,6 +28,7 @@ fn value_times(payloads: &[&[u8]]) -> [f64; 4] {
 
 /// Our cutting and memmem's, in nanoseconds for 1,000 bytes.
 fn cut_times(file: &[u8]) -> [f64; 2] {
+    cut::check(file);
     alternate(1, [&mut whole(|| cut::ours(file)), &mut whole(|| cut::by_memmem(file))]).map(|t| t.best / file.len() as f64 * 1000.)
 }
 

@@ -945,7 +945,8 @@ def _packet(number: int, window: int, cut: ReadCut, payload: Bytes, forced: bool
 
 
 def open_take(source: Union[str, os.PathLike[str], BinaryIO], forced: bool = False, room: int = MOST_ROWS, piece: int = 65536) -> Take:
-    """The packets of a raw file by its path, or of a file that is open for reading bytes, read in pieces of so many bytes."""
+    """The packets of a raw file by its path, or of a file that is open for reading bytes, read in pieces of so many bytes. An open file is read from where it stands, and places
+    count from there."""
     return Take(source, forced, room, piece)
 
 

@@ -67,6 +67,14 @@ WRONG = {
     "Union[str, os.PathLike[str], BinaryIO]": (None, 1, b"take.raw", [1]),
 }
 LARGEST = (0, 2**64 - 1, 2**63 - 1, 2**32 - 1, 2**31 - 1, 65535, 32767, 255)
+# How many bits a number from 0 on may have, where they are not 64: by the argument's name, or by the function's and its own.
+BITS = {
+    "group_kind": 32, "group_key": 32, "tag": 32, "key": 32, "key_text.number": 32, "b": 8, "put_signed.n": 63, "negated.x": 15,
+    "scaled.w": 15, "scaled.x": 15, "scaled.y": 15, "scaled.z": 15, "q15_16.high": 15, "q15_16.low": 16,
+    "q31_32.high": 31, "q31_32.low": 32, "q31_32_exact.high": 31, "q31_32_exact.low": 32,
+}
+# Arguments with a range of their own, which are tested by themselves.
+RANGED = ("room", "piece", "milliseconds")
 
 
 def replaced(name):
@@ -95,13 +103,14 @@ class Arguments(unittest.TestCase):
                     with self.subTest(name, argument=parameter.name, wrong=repr(wrong)[:60]):
                         self.assertRaises((ValueError, TypeError, OverflowError), call, wrong)
 
-    def test_the_largest_ones_are_answered(self):
+    def test_the_largest_ones_are_answered_and_no_larger(self):
         for name in fitting():
             for parameter, call in replaced(name):
-                if parameter.annotation in ("int", "Optional[int]", "ItemOrPlace"):
+                if parameter.annotation in ("int", "Optional[int]", "ItemOrPlace") and parameter.name not in RANGED:
+                    bits = BITS.get(f"{name}.{parameter.name}", BITS.get(parameter.name, 64))
                     for number in LARGEST:
                         with self.subTest(name, argument=parameter.name, number=number):
-                            self.assertTrue(answered(call, number) or number > 255 or parameter.name in ("room", "piece"))
+                            self.assertEqual(answered(call, number), number < 2**bits)
 
     def test_a_number_below_0_is_no_place(self):
         for call in gpmf.find_devc, gpmf.parse_header, gpmf.last_item, gpmf.value, gpmf.packets_next:

@@ -313,11 +313,11 @@ class Files(unittest.TestCase):
         greedy.read = lambda count: bytes(count + 1)
         self.assertRaises(ValueError, list, gpmf.open_take(greedy))
 
-    def test_a_file_over_several_gigabytes_is_cut_at_its_places(self):
+    def test_an_open_file_is_read_from_where_it_stands(self):
         with tempfile.TemporaryFile() as file:
             file.seek(5_000_000_000)
             file.write(DEVC + item("ABCD", "B", 1, 3, b"abc"))
-            file.seek(4_990_000_000)  # what stands before is a hole, and the place is still that of the file
+            file.seek(4_990_000_000)  # what stands before is not read, and places count from here
             take = gpmf.open_take(file)
             (packet,) = take
             self.assertEqual((packet.start, packet.length, packet.reading[0].key), (10_000_008, 12, "ABCD"))
