@@ -11,7 +11,7 @@ use Rattle.klv.specs.Level.{itemsOf}
 use Rattle.reading.specs.Refusal.{tooLong, noRoom}
 use Rattle.reading.specs.Record.{Record}
 use Rattle.reading.specs.Walk.{outermost, Outcome, accepted, refused, walk, readingOf}
-use Rattle.reading.proofs.Payload.{read-long, read-within, read-accepted}
+use Rattle.reading.proofs.Payload.{read-long, read-within, accepted-within, read-accepted}
 use Rattle.reading.proofs.Stand.{Stands, read-stands}
 use Rattle.newer_camera.specs.PutIn.{PutIn}
 use Rattle.newer_camera.specs.Rows.{newRows, putBefore, movedBy, moved}
@@ -48,14 +48,6 @@ module _ (f : Record → Record) where
   map-old : {rs : List Record} {r : Record} → List·Memᴰ r rs → List·Memᴰ (f r) (map f rs)
   map-old (List·Memᴰ·head e) = List·Memᴰ·head (ap f e)
   map-old (List·Memᴰ·tail m) = List·Memᴰ·tail (map-old m)
-
--- a payload that is accepted is within the limit
-accepted-within : (forced : Bool) (s : List ℕ) (room : ℕ) (rs : List Record) (headers : ℕ) → readingOf forced s room ≡ accepted rs headers → length s ≤ 1048576
-accepted-within forced s room rs headers e = go (decLe (length s) 1048576)
-  where
-    go : Dec (length s ≤ 1048576) → length s ≤ 1048576
-    go (yes l) = l
-    go (no l) = let over = read-long forced s room (omega arith) in let o : _≡_ {A = ℕ} 0 1 = cc in absurd (omega arith)
 
 module _ (forced : Bool) {s t : List ℕ} (put : PutIn s t) (room : ℕ) (rs : List Record) (headers : ℕ) (e : readingOf forced s room ≡ accepted rs headers) where
   -- the walk of the new bytes, as the room goes

@@ -17,7 +17,7 @@ use Rattle.elements.specs.Types.{widthOf}
 use Rattle.texts.specs.Texts.{areWellFormed}
 use Rattle.reading.specs.Record.{TypeInForce, noType, typeAt, Record, typePlace}
 use Rattle.reading.specs.Walk.{rowItem, accepted, readingOf}
-use Rattle.reading.proofs.Payload.{read-long}
+use Rattle.reading.proofs.Payload.{accepted-within}
 use Rattle.reading.proofs.Stand.{ItemStands, InForceStands, Stands, read-stands}
 use Rattle.dates.specs.declared.Date.{Date}
 use Rattle.dates.specs.declared.Date.the-variants.{Milliseconds, TooFew, Unreadable}
@@ -38,14 +38,6 @@ use Rattle.newer_camera.proofs.Value.{found-there}
 -- a row's value: of its header, its payload and its TYPE text, and of nothing else
 abbrev pub rowValue : Record → Outcome
 rowValue r = valueOf (r .content .header) (r .content .payload) (textFor (r .content .header) (r .type))
-
--- a payload that is accepted is within the limit
-accepted-within : (forced : Bool) (s : List ℕ) (room : ℕ) (rs : List Record) (headers : ℕ) → readingOf forced s room ≡ accepted rs headers → length s ≤ 1048576
-accepted-within forced s room rs headers e = go (decLe (length s) 1048576)
-  where
-    go : Dec (length s ≤ 1048576) → length s ≤ 1048576
-    go (yes l) = l
-    go (no l) = let over = read-long forced s room (omega arith) in let o : _≡_ {A = ℕ} 0 1 = cc in absurd (omega arith)
 
 -- EACH ROW of an accepted reading leads to its own value
 pub row-value : (forced : Bool) (s : List ℕ) (room : ℕ) (rs : List Record) (headers : ℕ) → readingOf forced s room ≡ accepted rs headers → (r : Record) → List·Memᴰ r rs
