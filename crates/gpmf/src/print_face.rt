@@ -1,6 +1,6 @@
 // What is printed, laid into a lent buffer, and what is read out of a line.
-use answers::MetadataAnswer;
 use answers::WholeAnswer;
+use reading_answers::MetadataAnswer;
 use take::Taken;
 ghost use mathlib.Core.Path.{_≡_};
 ghost use mathlib.Core.Bool.{false};
@@ -14,7 +14,8 @@ ghost use Rattle.listing_line.specs.Line.{answerLine};
 ghost use Rattle.listing.specs.Listing.{rowLines, Lists};
 ghost use Rattle.listing_line.specs.Lines.{LaysLines};
 ghost use Rattle.take.specs.Take.{Takes, LaysAll, longPacket, totalsLine};
-ghost use Rattle.answers.specs.Answers.{toMetadata, ofNumber};
+ghost use Rattle.answers.specs.Answers.{ofNumber};
+ghost use Rattle.reading_answers.specs.Answers.{toMetadata};
 ghost use Rattle.gpmf.specs.Lent.{DecodesAs};
 
 // Lays one byte.
@@ -102,7 +103,7 @@ pub extern "C" fn gpmf_list(payload: &[u8], rows: &mut [u32], out: &mut [u8], at
 pub extern "C" fn gpmf_put_answer(out: &mut [u8], at: usize, answer: MetadataAnswer) -> usize
     ensures { λ r. ⌜ LaysLines (answerLine (toMetadata answer) ∷ []) (now (out .entry)) at r (now (out .exit)) ⌝ }
 {
-    listing_line::put_answer(out, at, answers::to_metadata(answer))
+    listing_line::put_answer(out, at, reading_answers::to_metadata(answer))
 }
 
 // Lays a line for each row.
