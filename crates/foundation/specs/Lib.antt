@@ -1,3 +1,5 @@
 pub mod BigEndian
 pub mod Fuel
 pub mod Text
+pub mod Pieces
+pub mod Digits
