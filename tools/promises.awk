@@ -1,7 +1,7 @@
 # Holds docs/PROMISES.md to the sources, and prints what does not fit: a public function without a line in its crate's section, a line
 # for a function that is not there, an empty cell, a line that does not name two must-fail edits and a theorem of one answer that are there.
 # The section `## gpmf` has a line for each exported function, or the word `none`, with the call that it is and how its answer is told; each other public call stands there once,
-# but for those of `answers` and `value_answers`, which tell.
+# but for those of `answers` and the crates named `.._answers`, which tell.
 # Reads lines `crate NAME`, `call CRATE FUNCTION`, `edit CRATE LABEL`, `further CRATE LABEL` (an edit that the gate leaves out) and `theorem NAME`, then the document (-v document=..): a section `## CRATE` for each crate, and
 # in it a table of calls | definition | promise | one answer | must-fail edits | runs.
 
@@ -77,6 +77,6 @@ END {
     for (one in there) {
         split(one, word, " ")
         if (word[1] == "call" && !(one in promised)) fault("no line for `" word[3] "` of crates/" word[2])
-        if (word[1] == "call" && ("crate gpmf") in there && word[2] !~ /^(gpmf|answers|value_answers)$/ && !(one in exported)) fault("`" word[3] "` of crates/" word[2] " is not exported")
+        if (word[1] == "call" && ("crate gpmf") in there && word[2] !~ /^(gpmf|([a-z]+_)?answers)$/ && !(one in exported)) fault("`" word[3] "` of crates/" word[2] " is not exported")
     }
 }

@@ -5,6 +5,7 @@ use mathlib.Core.List.{[], _∷_}
 use lib.Dec.{lit<}
 use Rattle.foundation.specs.Text.{characters}
 use Rattle.custom_type.specs.declared.Expanded.the-variants.{TooLong}
+use Rattle.foundation.specs.Digits.{worthOf}
 use Rattle.custom_type.specs.Number.{readable, withoutPlus}
 use Rattle.custom_type.specs.Expansion.{copied, step, goneThrough, expanded}
 use Rattle.custom_type.specs.Resolved.{told}
@@ -21,7 +22,7 @@ pub record Case7 : Type 0 where
   pub over-64-bits : expanded (characters "f[18446744073709551616]") ≡ characters "f"
 
 pub case-7 : Case7
-unfolding expanded goneThrough step copied readable withoutPlus
+unfolding expanded goneThrough step copied readable withoutPlus worthOf
 case-7 =
     record {
       three = refl;
@@ -45,7 +46,7 @@ pub record Edges : Type 0 where
   pub above-127 : expanded (233 ∷ characters "[3][2]") ≡ 233 ∷ 169 ∷ 169 ∷ 169 ∷ []
 
 pub edges : Edges
-unfolding expanded goneThrough step copied readable withoutPlus
+unfolding expanded goneThrough step copied readable withoutPlus worthOf
 edges =
     record {
       no-number = refl;
@@ -59,5 +60,5 @@ edges =
 
 -- refused without writing out a single copy
 pub most-of-64-bits : told (expanded (characters "f[18446744073709551615]")) ≡ TooLong
-unfolding readable withoutPlus
+unfolding readable withoutPlus worthOf
 most-of-64-bits = large (code "f") (characters "18446744073709551615") refl refl (lit< tt)

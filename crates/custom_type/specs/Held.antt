@@ -1,12 +1,13 @@
 -- What the code holds of an expansion while it goes through a text, and what it says of one character more. Assumes nothing: these are definitions.
-use Prim.Native.Nat.{ℕ, _+_, _*_, _-_, _^_}
+use Prim.Native.Nat.{ℕ, _+_, _*_, _^_}
 use Prim.Native.Char.{code}
 use mathlib.Core.Path.{_≡_}
 use mathlib.Core.Bool.{Bool, true, false, cond, not, _&&_}
 use mathlib.Core.List.{List, [], _∷_, _++_}
 use lib.Dec.{ltb, eqb}
 use lib.ListN.{take, replicate}
-use Rattle.custom_type.specs.Number.{isDigit, readable, withoutPlus, numberIn}
+use Rattle.foundation.specs.Digits.{worthOf}
+use Rattle.custom_type.specs.Number.{readable, withoutPlus, numberIn}
 use Rattle.custom_type.specs.Expansion.{Expansion, start, copied, lastOf, goneThrough}
 use Rattle.custom_type.specs.declared.count.Count.{Count}
 use Rattle.custom_type.specs.declared.step.Held.{Held}
@@ -33,7 +34,7 @@ unreadable = record { empty = false; readable = false; number = 0 }
 
 -- one character more behind the digits of a number
 abbrev pub withDigit : ℕ → ℕ → Count
-withDigit n c = cond (isDigit c && ltb (n * 10 + (c - code "0")) (2 ^ 64)) (digits (n * 10 + (c - code "0"))) unreadable
+withDigit n c = cond (ltb (worthOf c) 10 && ltb (n * 10 + worthOf c) (2 ^ 64)) (digits (n * 10 + worthOf c)) unreadable
 
 -- one character more behind what was collected: a `+` is read in front alone
 unfoldable pub nextCount : Count → ℕ → Count

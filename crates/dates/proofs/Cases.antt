@@ -3,10 +3,11 @@ use Prim.Native.String.{String}
 use mathlib.Core.Path.{_≡_, refl}
 use mathlib.Core.List.{List, [], _∷_, map}
 use Rattle.foundation.specs.Text.{characters}
+use Rattle.foundation.specs.Digits.{worthOf}
 use Rattle.dates.specs.declared.Date.{Date}
 use Rattle.dates.specs.declared.Date.the-variants.{Milliseconds, TooFew, Unreadable}
 use Rattle.dates.specs.Calendar.{millisecondsOf, possibleDay, possibleTime, daysOfMonth, daysOfMonths, daysOfYear, daysOfYears}
-use Rattle.dates.specs.Fields.{dayOf, timeOf, year, unsigned, digitsAfter}
+use Rattle.dates.specs.Fields.{dayOf, timeOf, year, unsigned}
 use Rattle.dates.specs.Date.{dateOf, refusal}
 
 abbrev pub date : String → Date
@@ -14,7 +15,7 @@ date text = dateOf (characters text)
 
 -- CASE 9
 pub case-9 : (date "240229120000.000" ≡ Milliseconds 1709208000000) × (date "230229120000.000" ≡ Milliseconds 0)
-unfolding dateOf dayOf timeOf year unsigned digitsAfter millisecondsOf possibleDay possibleTime daysOfMonth daysOfMonths daysOfYear daysOfYears
+unfolding dateOf dayOf timeOf year unsigned worthOf millisecondsOf possibleDay possibleTime daysOfMonth daysOfMonths daysOfYear daysOfYears
 case-9 = (refl, refl)
 
 -- a text and its date
@@ -42,10 +43,10 @@ rows =
 
 -- each is read as listed
 pub as-listed : map (λ (r : Row). date (r .0)) rows ≡ map (λ (r : Row). r .1) rows
-unfolding dateOf dayOf timeOf year unsigned digitsAfter millisecondsOf possibleDay possibleTime daysOfMonth daysOfMonths daysOfYear daysOfYears
+unfolding dateOf dayOf timeOf year unsigned worthOf millisecondsOf possibleDay possibleTime daysOfMonth daysOfMonths daysOfYear daysOfYears
 as-listed = refl
 
 -- document 01, Refusal numbers
 pub refusal-numbers : (refusal (date "240229120000.00") ≡ 6) × (refusal (date "24-229120000.000") ≡ 7)
-unfolding dateOf dayOf timeOf year unsigned digitsAfter
+unfolding dateOf dayOf timeOf year unsigned worthOf
 refusal-numbers = (refl, refl)

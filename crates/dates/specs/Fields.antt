@@ -1,11 +1,12 @@
 -- The numbers in a date's text, yymmddhhmmss.sss: GPMF description, Types (U), and document 01, Values. Assumes nothing: these are definitions.
-use Prim.Native.Nat.{ℕ, _+_, _-_, _*_}
+use Prim.Native.Nat.{ℕ, _+_, _-_}
 use Prim.Native.Char.{code}
-use mathlib.Core.Bool.{cond, _&&_}
+use mathlib.Core.Bool.{cond}
 use mathlib.Core.List.{List, [], _∷_}
-use lib.Dec.{eqb, leb, ltb}
+use lib.Dec.{eqb, ltb}
 use lib.ListN.{getD}
 use lib.Seq.{slice}
+use Rattle.foundation.specs.Digits.{areDigits, worth}
 use Rattle.dates.specs.declared.fields.Number.{Number}
 use Rattle.dates.specs.declared.fields.Number.the-variants as number
 use Rattle.dates.specs.declared.fields.ReadDay.{ReadDay}
@@ -18,19 +19,10 @@ abbrev pub given : {R : Type 0} → R → Number → (ℕ → R) → R
 given other (number.Is n) rest = rest n
 given other number.Unreadable rest = other
 
--- the digit that a byte is, where it is one
-abbrev pub digit : ℕ → Number
-digit b = cond (leb (code "0") b && leb b (code "9")) (number.Is (b - code "0")) number.Unreadable
-
--- digits behind a number: each makes ten times what stands before it, and itself
-unfoldable pub digitsAfter : ℕ → List ℕ → Number
-digitsAfter n [] = number.Is n
-digitsAfter n (b ∷ s) = given number.Unreadable (digit b) λ d. digitsAfter (n * 10 + d) s
-
--- one digit or more, and nothing else
+-- one decimal digit or more, and nothing else
 abbrev pub digits : List ℕ → Number
 digits [] = number.Unreadable
-digits (b ∷ s) = digitsAfter 0 (b ∷ s)
+digits (b ∷ s) = cond (areDigits 10 (b ∷ s)) (number.Is (worth 10 (b ∷ s))) number.Unreadable
 
 -- a leading `+` is read in each field (document 01, Values)
 unfoldable pub unsigned : List ℕ → Number

@@ -1,3 +1,4 @@
 pub mod BigEndian
 pub mod Bytes
 pub mod Parts
+pub mod Digits

@@ -2,3 +2,5 @@ pub mod BigEndian
 pub mod Fuel
 pub mod Text
 pub mod Refusals
+pub mod Pieces
+pub mod Digits

@@ -18,9 +18,10 @@ use Rattle.raw_metadata.specs.Window.{metadataIn, lentIn}
 use Rattle.items.specs.At.{Found}
 use Rattle.all_elements.specs.Laid.{toldOfFound, lentOfFound}
 use Rattle.answers.specs.declared.WholeAnswer.{WholeAnswer}
-use Rattle.answers.specs.declared.MetadataAnswer.{MetadataAnswer}
-use Rattle.answers.specs.declared.PacketMetadataAnswer.{PacketMetadataAnswer}
-use Rattle.answers.specs.Answers.{ofExpanded, ofElements, ofMetadata, ofNextMetadata, ofMetadataInWindow, ofDecoded}
+use Rattle.reading_answers.specs.declared.MetadataAnswer.{MetadataAnswer}
+use Rattle.reading_answers.specs.declared.PacketMetadataAnswer.{PacketMetadataAnswer}
+use Rattle.answers.specs.Answers.{ofExpanded, ofElements, ofDecoded}
+use Rattle.reading_answers.specs.Answers.{ofMetadata, ofNextMetadata, ofMetadataInWindow}
 
 -- a TYPE text written out
 pub record ResolvedAs (text a b : List ℕ) (r : WholeAnswer) : Type 0 where

@@ -2,8 +2,8 @@
 use answers::ItemAnswer;
 use answers::WholeAnswer;
 use klv::KLV;
+use orientation_answers::QuaternionAnswer;
 use quaternions::Quaternion;
-use value_answers::QuaternionAnswer;
 use value_answers::RealAnswer;
 ghost use mathlib.Core.Path.{_≡_};
 ghost use Rattle.tagged.specs.Tagged.{taggedOf, oneNumber};
@@ -12,7 +12,8 @@ ghost use Rattle.quaternions.specs.Scaled.{quaternionOf};
 ghost use Rattle.stamps.specs.Stamp.{stampOf};
 ghost use Rattle.durations.specs.Average.{averageOf};
 ghost use Rattle.answers.specs.Answers.{ofTagged, ofStamp};
-ghost use Rattle.value_answers.specs.Answers.{ofScaledRow, ofAverage};
+ghost use Rattle.value_answers.specs.Answers.{ofAverage};
+ghost use Rattle.orientation_answers.specs.Answers.{ofScaledRow};
 
 // The item of a group and tag.
 #[no_mangle]
@@ -66,7 +67,7 @@ pub extern "C" fn gpmf_scaled_quaternion(
 ) -> QuaternionAnswer
     ensures { λ r. ⌜ r ≡ ofScaledRow (quaternionOf (now (s .entry)) (now (rows .entry)) count «group_kind» «group_key» row) ⌝ }
 {
-    value_answers::of_scaled_row(quaternions::scaled_quaternion(
+    orientation_answers::of_scaled_row(quaternions::scaled_quaternion(
         s,
         rows,
         count,

@@ -1,5 +1,5 @@
 // The library for other languages: each public call under C's calling convention. A slice is a pointer and then a length, and an answer a record of
-// numbers (crates `answers` and `value_answers`).
+// numbers (crates `answers`, `reading_answers`, `value_answers` and `orientation_answers`).
 pub mod axes_face;
 pub mod group_face;
 pub mod item_face;

@@ -1,13 +1,14 @@
 // Packets of a raw file.
-use answers::PacketAnswer;
-use answers::PacketMetadataAnswer;
 use answers::WholeAnswer;
 use raw_file::Packets;
+use reading_answers::PacketAnswer;
+use reading_answers::PacketMetadataAnswer;
 ghost use mathlib.Core.Path.{_≡_};
 ghost use Rattle.search.specs.Search.{findFrom};
 ghost use Rattle.raw_file.specs.Packets.{nextPacket};
 ghost use Rattle.raw_file.specs.Window.{inWindow};
-ghost use Rattle.answers.specs.Answers.{ofDevc, ofNextPacket, ofInWindow};
+ghost use Rattle.answers.specs.Answers.{ofDevc};
+ghost use Rattle.reading_answers.specs.Answers.{ofNextPacket, ofInWindow};
 ghost use Rattle.gpmf.specs.Lent.{ReadNextAs, ReadInWindowAs};
 
 // The place of the first DEVC from a place on.
@@ -31,7 +32,7 @@ pub extern "C" fn gpmf_packets_new(at: usize) -> Packets
 pub extern "C" fn gpmf_packets_next(packets: Packets, file: &[u8]) -> PacketAnswer
     ensures { λ r. ⌜ r ≡ ofNextPacket (nextPacket (now (file .entry)) (packets .at)) ⌝ }
 {
-    answers::of_next_packet(packets.next(file))
+    reading_answers::of_next_packet(packets.next(file))
 }
 
 // The same in a window of a file.
@@ -39,7 +40,7 @@ pub extern "C" fn gpmf_packets_next(packets: Packets, file: &[u8]) -> PacketAnsw
 pub extern "C" fn gpmf_packets_next_in(packets: Packets, window: &[u8], more: bool) -> PacketAnswer
     ensures { λ r. ⌜ r ≡ ofInWindow (inWindow (now (window .entry)) more (packets .at)) ⌝ }
 {
-    answers::of_in_window(packets.next_in(window, more))
+    reading_answers::of_in_window(packets.next_in(window, more))
 }
 
 // The next packet of a file, read.
@@ -52,7 +53,7 @@ pub extern "C" fn gpmf_next_metadata(
 ) -> PacketMetadataAnswer
     ensures { λ r. ⌜ ReadNextAs forced (now (file .entry)) (packets .at) (now (rows .entry)) r (now (rows .exit)) ⌝ }
 {
-    answers::of_next_metadata(raw_metadata::next_metadata(packets, file, forced, rows))
+    reading_answers::of_next_metadata(raw_metadata::next_metadata(packets, file, forced, rows))
 }
 
 // The same in a window of a file.
@@ -66,7 +67,7 @@ pub extern "C" fn gpmf_next_metadata_in(
 ) -> PacketMetadataAnswer
     ensures { λ r. ⌜ ReadInWindowAs forced (now (window .entry)) more (packets .at) (now (rows .entry)) r (now (rows .exit)) ⌝ }
 {
-    answers::of_metadata_in_window(raw_metadata::next_metadata_in(
+    reading_answers::of_metadata_in_window(raw_metadata::next_metadata_in(
         packets,
         window,
         more,

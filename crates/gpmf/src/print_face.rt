@@ -1,6 +1,6 @@
 // What is printed, laid into a lent buffer, and what is read out of a line.
-use answers::MetadataAnswer;
 use answers::WholeAnswer;
+use reading_answers::MetadataAnswer;
 use take::Taken;
 ghost use mathlib.Core.Path.{_≡_};
 ghost use mathlib.Core.Bool.{false};
@@ -8,13 +8,15 @@ ghost use mathlib.Core.List.{[], _∷_};
 ghost use lib.ListN.{length};
 ghost use Rattle.text.specs.Lay.{Lays};
 ghost use Rattle.text.specs.Numerals.{decimal, lastDigits, signedDecimal};
-ghost use Rattle.line.specs.Read.{piecesOf, numberIn};
+ghost use Rattle.foundation.specs.Pieces.{piecesOf};
+ghost use Rattle.line.specs.Read.{numberIn};
 ghost use Rattle.reading.specs.Walk.{readingOf, roomOf};
 ghost use Rattle.listing_line.specs.Line.{answerLine};
 ghost use Rattle.listing.specs.Listing.{rowLines, Lists};
 ghost use Rattle.listing_line.specs.Lines.{LaysLines};
 ghost use Rattle.take.specs.Take.{Takes, LaysAll, longPacket, totalsLine};
-ghost use Rattle.answers.specs.Answers.{toMetadata, ofNumber};
+ghost use Rattle.answers.specs.Answers.{ofNumber};
+ghost use Rattle.reading_answers.specs.Answers.{toMetadata};
 ghost use Rattle.gpmf.specs.Lent.{DecodesAs};
 
 // Lays one byte.
@@ -102,7 +104,7 @@ pub extern "C" fn gpmf_list(payload: &[u8], rows: &mut [u32], out: &mut [u8], at
 pub extern "C" fn gpmf_put_answer(out: &mut [u8], at: usize, answer: MetadataAnswer) -> usize
     ensures { λ r. ⌜ LaysLines (answerLine (toMetadata answer) ∷ []) (now (out .entry)) at r (now (out .exit)) ⌝ }
 {
-    listing_line::put_answer(out, at, answers::to_metadata(answer))
+    listing_line::put_answer(out, at, reading_answers::to_metadata(answer))
 }
 
 // Lays a line for each row.

@@ -1,8 +1,8 @@
 // The reading of a payload, and its rows.
 use answers::ItemAnswer;
-use answers::MetadataAnswer;
-use answers::RowAnswer;
 use answers::WholeAnswer;
+use reading_answers::MetadataAnswer;
+use reading_answers::RowAnswer;
 use rows::Row;
 ghost use mathlib.Core.Path.{_≡_};
 ghost use lib.ListN.{length, drop};
@@ -12,7 +12,8 @@ ghost use Rattle.reading.specs.Walk.{readingOf, roomOf};
 ghost use Rattle.last_item.specs.LastItem.{told};
 ghost use Rattle.rows.specs.Row.{rowAt, Put};
 ghost use Rattle.rows.specs.Lookup.{lookupOf};
-ghost use Rattle.answers.specs.Answers.{ofLastItem, ofRowAt, ofFound};
+ghost use Rattle.answers.specs.Answers.{ofLastItem, ofFound};
+ghost use Rattle.reading_answers.specs.Answers.{ofRowAt};
 ghost use Rattle.gpmf.specs.Lent.{ReadAs};
 
 // What a payload is read as; its rows go into the lent numbers.
@@ -24,7 +25,7 @@ pub extern "C" fn gpmf_parse_metadata(
 ) -> MetadataAnswer
     ensures { λ r. ⌜ ReadAs (readingOf forced (now (payload .entry)) (roomOf (length (now (rows .entry))))) (now (rows .entry)) r (now (rows .exit)) ⌝ }
 {
-    answers::of_metadata(metadata::parse_metadata(payload, forced, rows))
+    reading_answers::of_metadata(metadata::parse_metadata(payload, forced, rows))
 }
 
 // The last item of the level from a place on.
@@ -64,7 +65,7 @@ pub extern "C" fn gpmf_put_row(out: &mut [u32], n: usize, row: Row) -> bool
 pub extern "C" fn gpmf_row_at(rows: &[u32], n: usize) -> RowAnswer
     ensures { λ r. ⌜ r ≡ ofRowAt (rowAt (now (rows .entry)) n) ⌝ }
 {
-    answers::of_row_at(rows::row_at(rows, n))
+    reading_answers::of_row_at(rows::row_at(rows, n))
 }
 
 // The index of the last row of a group and a tag; with tag 0, of a key.

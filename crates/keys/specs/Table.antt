@@ -8,21 +8,12 @@ use mathlib.Core.List.{List, [], _∷_, map}
 use lib.Dec.{eqb}
 use Rattle.foundation.specs.BigEndian.{bigEndian}
 use Rattle.foundation.specs.Text.{characters}
+use Rattle.foundation.specs.Pieces.{piecesOf}
 use Rattle.keys.specs.declared.Known.{Known}
 
--- a character in front of the first word
-abbrev pub inFront : ℕ → List (List ℕ) → List (List ℕ)
-inFront c [] = (c ∷ []) ∷ []
-inFront c (word ∷ others) = (c ∷ word) ∷ others
-
--- the words of a text, parted by single spaces
-abbrev pub words : List ℕ → List (List ℕ)
-words [] = [] ∷ []
-words (c ∷ s) = cond (eqb c (code " ")) ([] ∷ words s) (inFront c (words s))
-
--- the keys that a text lists, each as one number: GPMF description, Key, length, value ("a 32-bit key")
+-- the keys that a text lists, parted by single spaces, each as one number: GPMF description, Key, length, value ("a 32-bit key")
 abbrev pub keysIn : String → List ℕ
-keysIn text = map bigEndian (words (characters text))
+keysIn text = map bigEndian (piecesOf (code " ") (characters text))
 
 -- keys that share one number
 abbrev pub sharing : ℕ → List ℕ → List Known

@@ -1,15 +1,15 @@
 -- The answers to a text of hex: none where it is not one or has no room, all of its bytes where it has. Assumes nothing.
-use Prim.Native.Nat.{ℕ, _+_, _*_, _/_, _%_, _≤_, _<_}
-use mathlib.Core.Path.{_≡_, refl, sym, ap, _∙_}
+use Prim.Native.Nat.{ℕ, _+_, _*_, _%_, _≤_, _<_}
+use mathlib.Core.Path.{_≡_}
 use mathlib.Core.Bool.{true, false}
 use mathlib.Core.List.{List}
-use native.Mathlib.Nat.{zero-add}
 use native.Mathlib.Omega.{arith}
 use borrow.Author.Tests.{eq-eqb, ne-eqb, le-leb, lt-leb}
 use lib.Dec.{eqb, leb}
 use lib.ListN.{length}
-use Rattle.text.specs.Lay.{over, laid}
-use Rattle.line.specs.Read.{areDigits, bytesIn, decoded, decodedInto, Decodes}
+use Rattle.text.specs.Lay.{over}
+use Rattle.foundation.specs.Digits.{areDigits}
+use Rattle.line.specs.Read.{bytesIn, decoded, decodedInto, Decodes}
 use Rattle.line.specs.declared.Decoded.the-variants.{Bytes, NoRoom, NotHex}
 use Rattle.text.proofs.Laying.{lays-whole, lays-nothing}
 use Rattle.line.proofs.Reading.{length-bytesIn}

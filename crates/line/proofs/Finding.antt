@@ -1,12 +1,11 @@
 -- What stands before a byte, from a place on: nothing where the byte stands there, one more where it does not. Assumes nothing.
-use Prim.Native.Nat.{ℕ, suc, _+_, _≤_, _<_}
-use mathlib.Core.Path.{_≡_, refl, ap, _∙_}
-use mathlib.Core.List.{List, [], _∷_}
-use native.Mathlib.Nat.{add-zero}
+use Prim.Native.Nat.{ℕ, suc, _≤_, _<_}
+use mathlib.Core.Path.{_≡_}
+use mathlib.Core.List.{List}
 use borrow.Author.Tests.{eq-eqb, ne-eqb}
 use lib.ListN.{length, getD, drop, drop-of-length-le}
 use lib.Seq.{drop-cons}
-use Rattle.line.specs.Read.{countOne, before}
+use Rattle.foundation.specs.Pieces.{before}
 
 module _ (b : ℕ) (s : List ℕ) (i : ℕ) where
   pub found-here : i < length s → getD s i 0 ≡ b → before b (drop i s) ≡ 0

@@ -1,17 +1,19 @@
 -- Digits read from the front: whether they are digits, what they are worth, and the bytes that pairs of them are. Assumes nothing.
 use Prim.Native.Nat.{ℕ, zero, suc, _+_, _*_, _-_, _/_, _^_, _≤_, _<_}
-use mathlib.Core.Path.{_≡_, refl, sym, ap, _∙_}
+use mathlib.Core.Path.{_≡_, refl, ap, _∙_}
 use mathlib.Core.Bool.{Bool, true, false, false≢true, _&&_}
 use mathlib.Core.List.{List, [], _∷_}
-use native.Mathlib.Nat.{le-refl, zero-add, add-assoc, add-mul, mul-assoc, mul-one, mul-le-mul-left, pow-zero, pow-succ', one-le-pow, add-zero, not-suc-le-zero, le-div-iff-mul-le, div-lt-iff-lt-mul}
+use native.Mathlib.Nat.{le-refl, zero-add, mul-one, mul-le-mul-left, pow-zero, one-le-pow, add-zero, not-suc-le-zero, le-div-iff-mul-le, div-lt-iff-lt-mul}
 use native.Mathlib.Omega.{arith}
 use borrow.Author.Tests.{lt-ltb, le-ltb, ltb-true}
 use lib.Dec.{ltb, eqb}
 use lib.ListN.{length, getD, drop, drop-of-length-le}
 use lib.Seq.{drop-cons}
-use Rattle.text.specs.Numerals.{digits}
-use Rattle.line.specs.Read.{countOne, before, worthOf, areDigits, worth, worthIn64, bytesIn}
-use Rattle.line.specs.declared.Number.{Number}
+use Rattle.foundation.specs.Digits.{digits}
+use Rattle.foundation.specs.Pieces.{countOne, before}
+use Rattle.foundation.specs.Digits.{worthOf, areDigits, worth}
+use Rattle.foundation.proofs.Digits.{digit-read}
+use Rattle.line.specs.Read.{worthIn64, bytesIn}
 use Rattle.line.specs.declared.Number.the-variants.{Is, NotOne}
 
 one-more : (t : Bool) (n m : ℕ) → n ≤ m → countOne t n ≤ suc m
@@ -46,15 +48,7 @@ module _ (base : ℕ) (s : List ℕ) (i : ℕ) where
   pub worth-more : (value : ℕ) → i < length s
       → value * base ^ length (drop i s) + worth base (drop i s)
       ≡ (value * base + worthOf (getD s i 0)) * base ^ length (drop (suc i) s) + worth base (drop (suc i) s)
-  worth-more value h =
-      let d : ℕ = worthOf (getD s i 0) in
-      let p : ℕ = base ^ length (drop (suc i) s) in
-      let w : ℕ = worth base (drop (suc i) s) in
-      rw (drop-cons s i 0 h)
-      (ap (λ (x : ℕ). value * x + (d * p + w)) (pow-succ' base (length (drop (suc i) s)))
-      ∙ ap (λ (x : ℕ). x + (d * p + w)) (sym (mul-assoc value base p))
-      ∙ sym (add-assoc (value * base * p) (d * p) w)
-      ∙ ap (λ (x : ℕ). x + w) (sym (add-mul (value * base) d p)))
+  worth-more value h = rw (drop-cons s i 0 h) (digit-read base value (getD s i 0) (drop (suc i) s))
 
 -- more digits make a number no smaller
 pub no-smaller : (n base k w : ℕ) → 0 < base → n ≤ n * base ^ k + w

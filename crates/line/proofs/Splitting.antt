@@ -1,17 +1,16 @@
 -- The pieces of a text: the first reaches up to the first b, and behind that byte stand the others. Assumes nothing.
-use Prim.Native.Nat.{ℕ, zero, suc, _+_, _-_, _≤_, _<_}
+use Prim.Native.Nat.{ℕ, suc, _+_, _≤_, _<_}
 use mathlib.Core.Path.{_≡_, refl, sym, ap, _∙_}
 use mathlib.Core.Bool.{Bool, true, false, cond}
 use mathlib.Core.List.{List, [], _∷_}
 use native.Mathlib.Nat.{not-suc-le-zero}
-use native.Mathlib.Numerals.{add-one}
 use native.Mathlib.Omega.{arith}
 use borrow.Author.Tests.{eq-eqb, ne-eqb, ltb-true, ltb-false, leb-true, leb-false, le-leb, lt-leb}
 use lib.Dec.{eqb, ltb, leb, leb·zero}
 use lib.ListN.{length, getD, take, drop, length-drop, drop-of-length-le}
 use lib.Seq.{drop-cons, drop-drop}
-use Rattle.line.specs.Read.{countOne, before, upTo, inFront, ends, piecesOf}
-use Rattle.line.proofs.Reading.{before-length}
+use Rattle.foundation.specs.Pieces.{countOne, before, inFront, ends, piecesOf}
+use Rattle.line.specs.Read.{upTo}
 
 -- the pieces behind the first
 abbrev behindIf : Bool → List (List ℕ) → List (List ℕ) → List (List ℕ)

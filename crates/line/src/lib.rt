@@ -5,7 +5,9 @@ ghost use mathlib.Core.List.{[]};
 ghost use Prim.Native.Nat.{_+_, _*_, _<_, _≤_};
 ghost use lib.ListN.{length, getD, drop};
 ghost use Rattle.text.specs.Lay.{over};
-ghost use Rattle.line.specs.Read.{before, upTo, piecesOf, worthOf, areDigits, worthIn64, numberIn, bytesIn, Decodes};
+ghost use Rattle.foundation.specs.Pieces.{before, piecesOf};
+ghost use Rattle.foundation.specs.Digits.{worthOf, areDigits};
+ghost use Rattle.line.specs.Read.{upTo, worthIn64, numberIn, bytesIn, Decodes};
 
 // A number in a text, or that the text is no number of 64 bits.
 pub enum Number {

@@ -1,19 +1,20 @@
--- The item of a group and tag, by what the header and the lookup tell; and one number, by its width. Assumes nothing.
+-- The item of a group and tag, by what the lookup tells, and the header that stands there; and one number, by its width. Assumes nothing.
 use Prim.Native.Nat.{ℕ, _/_, _<_, _≤_}
 use mathlib.Core.Path.{_≡_, refl, ap, sym, subst, _∙_}
 use mathlib.Core.Bool.{Bool, true, false, cond, _&&_}
-use mathlib.Core.List.{List}
+use mathlib.Core.List.{List, [], _∷_}
 use native.Mathlib.Nat.{div-zero}
 use native.Mathlib.Omega.{arith}
 use lib.Dec.{eqb, ltb}
-use lib.ListN.{length}
-use borrow.Author.Tests.{lt-ltb, le-ltb, ltb-true, ltb-false, eqb-true, eq-eqb, ne-eqb}
-use Rattle.klv.specs.Item.{dataLen}
-use Rattle.klv.specs.Header.{headerAt}
+use lib.ListN.{length, drop}
+use borrow.Author.Tests.{lt-ltb, le-ltb, ltb-true, ltb-false, eqb-true, eq-eqb}
+use Rattle.klv.specs.Item.{headerOf, First, few, past, item, firstItem}
+use Rattle.klv.specs.Header.{told, headerAt}
 use Rattle.klv.specs.declared.KLV.{KLV}
-use Rattle.klv.specs.declared.Header.{Header}
 use Rattle.klv.specs.declared.Header.the-variants as header
 use Rattle.elements.specs.Types.{widthOf}
+use Rattle.items.specs.At.{Named, named, bad, typeFor, stopped, overIf, wholeIf, foundBy, foundAt}
+use Rattle.values.specs.At.{klvOfFound}
 use Rattle.reading.specs.Walk.{roomOf}
 use Rattle.rows.specs.Row.{rowOf, rowAt}
 use Rattle.rows.specs.Lookup.{lookupOf}
@@ -27,21 +28,6 @@ use Rattle.rows.proofs.Search.{Says, lookup-says, too-many}
 use Rattle.tagged.specs.Tagged.{itemBy, itemAt, itemOf, taggedOf, oneNumber}
 use Rattle.tagged.specs.declared.Tagged.{Tagged}
 use Rattle.tagged.specs.declared.Tagged.the-variants.{Is, Nothing, Refused}
-
--- ---- at a place
-
-module _ (s : List ℕ) (place : ℕ) {at : ℕ} {read : Header} (there : at ≡ place) (is-read : read ≡ headerAt s at) where
-  -- by the header that was read
-  pub by-header : (h : Header) → read ≡ h → itemAt s place ≡ itemBy h place
-  unfolding itemAt
-  by-header h e = ap (λ (r : Header). itemBy r place) (ap (headerAt s) (sym there) ∙ sym is-read ∙ e)
-
-  module _ (h : KLV) {n : ℕ} (e : read ≡ header.Item h) (long : n ≡ dataLen h) where
-    pub empty : n ≡ 0 → itemAt s place ≡ Refused 12 place
-    empty z = by-header (header.Item h) e ∙ simp (eq-eqb (dataLen h) 0 (sym long ∙ z))
-
-    pub whole : (n ≡ 0 → ⊥) → itemAt s place ≡ Is h place
-    whole z = by-header (header.Item h) e ∙ simp (ne-eqb (dataLen h) 0 (λ (k : dataLen h ≡ 0). z (long ∙ k)))
 
 -- ---- of a group and a tag
 
@@ -93,21 +79,34 @@ module _ (s rows : List ℕ) (count groupKind groupKey tag key : ℕ) where
 
   -- THE HEADER of what is answered stands at its place
   module _ (h : KLV) (place : ℕ) where
-    length-there : (k : KLV) (p : ℕ) → headerAt s p ≡ header.Item k → (b : Bool) → cond b (Refused 12 p) (Is k p) ≡ Is h place → headerAt s place ≡ header.Item h
-    length-there k p there true e = absurd (not-refused e)
-    length-there k p there false e =
+    -- by what stands first there
+    type-there : (p : ℕ) (k : KLV) (payload : List ℕ) (t : Named) → headerAt s p ≡ header.Item k → itemBy (klvOfFound (wholeIf t k payload p)) p ≡ Is h place → headerAt s place ≡ header.Item h
+    type-there p k payload bad there e = absurd (not-refused e)
+    type-there p k payload (named type) there e =
         let same : k ≡ h = cc in
         let here : p ≡ place = cc in
         ap (headerAt s) (sym here) ∙ there ∙ ap header.Item same
 
-    header-there : (p : ℕ) (r : Header) → headerAt s p ≡ r → itemBy r p ≡ Is h place → headerAt s place ≡ header.Item h
-    header-there p header.Short there e = absurd (not-refused e)
-    header-there p header.Past there e = absurd (not-refused e)
-    header-there p (header.Item k) there e = length-there k p there (eqb (dataLen k) 0) e
+    past-there : (p : ℕ) (t : Named) → itemBy (klvOfFound (overIf t p)) p ≡ Is h place → ⊥
+    past-there p bad e = not-refused e
+    past-there p (named type) e = not-refused e
+
+    first-there : (p : ℕ) (f : First) → headerAt s p ≡ told f → itemBy (klvOfFound (foundBy f s p 4294967295)) p ≡ Is h place → headerAt s place ≡ header.Item h
+    first-there p few there e = absurd (not-refused e)
+    first-there p past there e = absurd (past-there p (typeFor (headerOf (drop p s) .«data_type») s 4294967295) e)
+    first-there p (item k [] rest) there e = absurd (not-refused e)
+    first-there p (item k (b ∷ payload) rest) there e = type-there p k (b ∷ payload) (typeFor (k .«data_type») s 4294967295) there e
+
+    header-there : (p : ℕ) → itemAt s p ≡ Is h place → headerAt s place ≡ header.Item h
+    unfolding itemAt foundAt
+    header-there p = go (ltb 1048576 (length s))
+      where
+        go : (b : Bool) → itemBy (klvOfFound (cond b (stopped 1 0) (foundBy (firstItem (drop p s)) s p 4294967295))) p ≡ Is h place → headerAt s place ≡ header.Item h
+        go true e = absurd (not-refused e)
+        go false e = first-there p (firstItem (drop p s)) refl e
 
     found-there : (f : Found) → itemOf s rows f ≡ Is h place → headerAt s place ≡ header.Item h
-    unfolding itemAt
-    found-there (row.At n) e = header-there (rowOf rows n .place) (headerAt s (rowOf rows n .place)) refl e
+    found-there (row.At n) e = header-there (rowOf rows n .place) e
     found-there row.Nothing e = absurd (not-nothing e)
     found-there (row.Refused number at) e = absurd (not-refused e)
 

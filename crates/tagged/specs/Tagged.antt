@@ -6,13 +6,13 @@ use mathlib.Core.List.{List}
 use lib.Dec.{eqb, ltb}
 use lib.ListN.{length}
 use Rattle.foundation.specs.Refusals as refusals
-use Rattle.klv.specs.Limits.{mostBytes}
-use Rattle.klv.specs.Item.{dataLen}
-use Rattle.klv.specs.Header.{headerAt}
+use Rattle.klv.specs.Limits.{mostBytes, noPlace}
 use Rattle.klv.specs.declared.KLV.{KLV}
-use Rattle.klv.specs.declared.Header.{Header}
-use Rattle.klv.specs.declared.Header.the-variants as header
 use Rattle.elements.specs.Types.{widthOf}
+use Rattle.items.specs.At.{foundAt}
+use Rattle.values.specs.At.{klvOfFound}
+use Rattle.values.specs.declared.Headed.{Headed}
+use Rattle.values.specs.declared.Headed.the-variants as headed
 use Rattle.rows.specs.Row.{rowOf}
 use Rattle.rows.specs.Lookup.{lookupOf}
 use Rattle.rows.specs.declared.Found.{Found}
@@ -20,15 +20,14 @@ use Rattle.rows.specs.declared.Found.the-variants as row
 use Rattle.tagged.specs.declared.Tagged.{Tagged}
 use Rattle.tagged.specs.declared.Tagged.the-variants.{Is, Nothing, Refused}
 
--- by the header at the place: 12 for "no 8 header bytes or length 0", 2 for a payload that "runs past .. the payload's end"
-abbrev pub itemBy : Header → ℕ → Tagged
-itemBy header.Short place = Refused refusals.noItem place
-itemBy header.Past place = Refused refusals.pastEnd place
-itemBy (header.Item h) place = cond (eqb (dataLen h) 0) (Refused refusals.noItem place) (Is h place)
+-- by the header that a value at the place has, or its refusal
+abbrev pub itemBy : Headed → ℕ → Tagged
+itemBy (headed.Is h) place = Is h place
+itemBy (headed.Refused number at) place = Refused number at
 
--- the item at a place that a row names
+-- the item at a place that a row names: 12 and 2 as for its value, for which no TYPE is in force
 unfoldable pub itemAt : List ℕ → ℕ → Tagged
-itemAt s place = itemBy (headerAt s place) place
+itemAt s place = itemBy (klvOfFound (foundAt s place noPlace)) place
 
 -- by what a lookup found
 abbrev pub itemOf : List ℕ → List ℕ → Found → Tagged

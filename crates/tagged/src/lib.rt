@@ -1,11 +1,10 @@
 // The item of a group and tag, found through rows: its header, and where it stands in the payload.
-use klv::Cursor;
-use klv::Header;
 use klv::KLV;
 use klv::wide;
 use rows::Found;
 use rows::Row;
 use rows::RowAt;
+use values::Headed;
 ghost use mathlib.Core.Path.{_≡_};
 ghost use Rattle.tagged.specs.Tagged.{itemAt, taggedOf, oneNumber};
 
@@ -17,36 +16,16 @@ pub enum Tagged {
     Refused { number: u32, place: usize },
 }
 
-// The refusals of a payload over the limit, of an item that runs past the end, and of a place without an item.
+// The refusal of a payload over the limit.
 const TOO_LONG: u32 = 1;
-
-const PAST_END: u32 = 2;
-
-const NO_ITEM: u32 = 12;
 
 // The item at a place that a row names.
 fn item_at(s: &[u8], place: u32) -> Tagged
     ensures { λ r. ⌜ r ≡ itemAt (now (s .entry)) place ⌝ }
 {
-    let at = place as usize;
-    match Cursor::new(at).parse_header(s) {
-        Header::Short => Tagged::Refused {
-            number: NO_ITEM,
-            place: at,
-        },
-        Header::Past => Tagged::Refused {
-            number: PAST_END,
-            place: at,
-        },
-        Header::Item(klv) => {
-            if klv.data_len() == 0 {
-                return Tagged::Refused {
-                    number: NO_ITEM,
-                    place: at,
-                };
-            }
-            Tagged::Is { klv, place }
-        }
+    match values::klv_at(s, place as usize, items::NO_TYPE) {
+        Headed::Is(klv) => Tagged::Is { klv, place },
+        Headed::Refused { number, place } => Tagged::Refused { number, place },
     }
 }
 

@@ -7,10 +7,7 @@ use lib.IntN.{ℤ, pos, negsuc}
 use lib.ListN.{getD}
 use Rattle.foundation.specs.Fuel.{fix}
 use Rattle.foundation.specs.Text.{characters}
-
--- the digits in their order
-abbrev pub digits : List ℕ
-digits = characters "0123456789abcdef"
+use Rattle.foundation.specs.Digits.{digits}
 
 -- the last digits of a number in a base, as many as are asked
 abbrev pub lastDigits : ℕ → ℕ → ℕ → List ℕ

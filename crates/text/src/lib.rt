@@ -10,7 +10,8 @@ ghost use lib.IntN.{pos};
 ghost use lib.ListN.{length, getD};
 ghost use lib.Signed.{ltZ, mag};
 ghost use Rattle.text.specs.Lay.{over, Lays};
-ghost use Rattle.text.specs.Numerals.{digits, lastDigits, decimal, signedDecimal};
+ghost use Rattle.foundation.specs.Digits.{digits};
+ghost use Rattle.text.specs.Numerals.{lastDigits, decimal, signedDecimal};
 
 pub const FULL: usize = usize::MAX;
 

@@ -24,10 +24,11 @@ use Rattle.fixed.specs.Fixed.{q31-32}
 use Rattle.elements.specs.declared.Element.the-variants.{Unsigned, Double}
 use Rattle.elements.specs.Types.{widthOf}
 use Rattle.elements.specs.Element.{elementOf, elementAt}
+use Rattle.foundation.specs.Digits.{worthOf}
 use Rattle.custom_type.specs.Number.{readable, withoutPlus}
 use Rattle.custom_type.specs.Expansion.{copied, step, goneThrough, expanded}
 use Rattle.dates.specs.Calendar.{millisecondsOf, possibleDay, possibleTime, daysOfMonth, daysOfMonths, daysOfYear, daysOfYears}
-use Rattle.dates.specs.Fields.{dayOf, timeOf, year, unsigned, digitsAfter}
+use Rattle.dates.specs.Fields.{dayOf, timeOf, year, unsigned}
 use Rattle.dates.specs.Date.{dateOf}
 use Rattle.value.specs.declared.Read.{Read}
 use Rattle.value.specs.declared.Read.the-variants as read
@@ -114,5 +115,5 @@ cases =
     ∷ [])
 
 pub marked-cases : map comes cases ≡ map says cases
-unfolding fix run found tags firstItem itemsOf oneText typeText lastItem lastReading numbers roleOf itemOutcome walk readingOf expanded goneThrough step copied readable withoutPlus foundAt planOf isQuaternions widthOf kindOf letterPlan elementAt elementOf q31-32 add div ofInt dateOf dayOf timeOf year unsigned digitsAfter millisecondsOf possibleDay possibleTime daysOfMonth daysOfMonths daysOfYear daysOfYears entryOf beyond lettered lt orientationsOf threeAscii
+unfolding fix run found tags firstItem itemsOf oneText typeText lastItem lastReading numbers roleOf itemOutcome walk readingOf expanded goneThrough step copied readable withoutPlus foundAt planOf isQuaternions widthOf kindOf letterPlan elementAt elementOf q31-32 add div ofInt dateOf dayOf timeOf year unsigned worthOf millisecondsOf possibleDay possibleTime daysOfMonth daysOfMonths daysOfYear daysOfYears entryOf beyond lettered lt orientationsOf threeAscii
 marked-cases = refl

@@ -1,39 +1,38 @@
 -- THE ITEM OF A GROUP AND A TAG, asked for in the rows of an accepted reading: that of the last such record, or nothing; so no refusal. Document 01, Items
 -- and the walk: "Lookup of a group and tag finds the last such row; tag 0 also compares the key." From what the laws of reading say to stand at a record's
 -- places, and those of rows in lent numbers. Assumes nothing.
-use Prim.Native.Nat.{ℕ, zero, suc, _+_, _*_, _≤_}
-use mathlib.Core.Path.{_≡_, refl, sym, ap, _∙_, subst}
-use mathlib.Core.Logic.{_≢_}
+use Prim.Native.Nat.{ℕ, suc, _+_, _*_, _≤_}
+use mathlib.Core.Path.{_≡_, refl, sym, ap, _∙_}
 use mathlib.Core.Bool.{Bool, true, false, cond, not, _&&_, _||_}
 use mathlib.Core.List.{List, [], _∷_, _++_, map, flatMap, List·Memᴰ, List·Memᴰ·head, List·Memᴰ·tail}
 use native.Mathlib.Omega.{arith}
-use borrow.Author.Tests.{ne-eqb, le-ltb}
+use borrow.Author.Tests.{le-ltb}
 use lib.Dec.{eqb}
 use lib.ListN.{length, length-append, length-drop, drop}
 use lib.Seq.{drop-drop}
 use Rattle.keys.specs.Keys.{tagOf}
-use Rattle.klv.specs.declared.KLV.{KLV}
-use Rattle.klv.specs.declared.Header.{Header}
-use Rattle.klv.specs.declared.Header.the-variants as header
-use Rattle.klv.specs.Header.{headerAt}
-use Rattle.klv.specs.Item.{dataLen}
-use Rattle.reading.specs.Record.{Record, groupKind, groupKey, numbers, rowWidth}
-use Rattle.reading.specs.Walk.{Role, rowItem, roleOf, accepted, readingOf, roomOf}
+use Rattle.klv.specs.Limits.{mostBytes, noPlace}
+use Rattle.reading.specs.Record.{noType, Record, groupKind, groupKey, numbers, rowWidth}
+use Rattle.reading.specs.Walk.{accepted, readingOf, roomOf}
 use Rattle.reading.specs.Answer.{lent}
 use Rattle.reading.proofs.Bounds.{read-bound}
 use Rattle.reading.proofs.Payload.{accepted-within}
-use Rattle.reading.proofs.Role.{Means, role-means}
 use Rattle.reading.proofs.Row.{rows-width, room-fits}
 use Rattle.reading.proofs.Stand.{Stands, read-stands}
 use Rattle.rows.specs.Row.{taken, rowOf}
-use Rattle.rows.specs.Lookup.{rowsOf, laterOr, matching, lastFrom, lookupOf}
-use Rattle.rows.specs.declared.Row.{Row}
+use Rattle.rows.specs.Lookup.{laterOr, matching, lastFrom, lookupOf}
 use Rattle.rows.specs.declared.Found.{Found}
 use Rattle.rows.specs.declared.Found.the-variants as row
 use Rattle.rows.proofs.Search.{rows-of-records}
+use Rattle.items.specs.At as At
+use Rattle.items.specs.At.{foundAt}
+use Rattle.values.specs.At.{klvOfFound}
+use Rattle.values.specs.declared.Headed.{Headed}
+use Rattle.values.specs.declared.Headed.the-variants as headed
 use Rattle.tagged.specs.Tagged.{itemBy, itemAt, itemOf, taggedOf}
 use Rattle.tagged.specs.declared.Tagged.{Tagged}
 use Rattle.tagged.specs.declared.Tagged.the-variants.{Is, Nothing, Refused}
+use Rattle.newer_camera.proofs.Value.{found-there}
 
 -- ---- what is to be found, by the records alone
 
@@ -58,27 +57,22 @@ module _ (kind of-group tag key : ℕ) where
 
 -- ---- the proof
 
-module _ (s : List ℕ) where
+module _ (s : List ℕ) (within : length s ≤ mostBytes) where
   -- an item at a place is there or refused, and never nothing
   keeps : (place : ℕ) (other : Tagged) → laterItem (itemAt s place) other ≡ itemAt s place
   unfolding itemAt
-  keeps place other = go (headerAt s place)
+  keeps place other = go (klvOfFound (foundAt s place noPlace))
     where
-      by-length : (h : KLV) (b : Bool) → laterItem (cond b (Refused 12 place) (Is h place)) other ≡ cond b (Refused 12 place) (Is h place)
-      by-length h true = refl
-      by-length h false = refl
+      go : (h : Headed) → laterItem (itemBy h place) other ≡ itemBy h place
+      go (headed.Is h) = refl
+      go (headed.Refused number at) = refl
 
-      go : (r : Header) → laterItem (itemBy r place) other ≡ itemBy r place
-      go header.Short = refl
-      go header.Past = refl
-      go (header.Item h) = by-length h (eqb (dataLen h) 0)
-
-  -- of a record that stands there
+  -- of a record that stands there, whatever TYPE is in force
   there : (r : Record) → Stands s r → itemAt s (r .place) ≡ Is (r .content .header) (r .place)
   unfolding itemAt
   there r stands =
-      let means : Means (r .content .header) rowItem = subst (Means (r .content .header)) (stands .row) (role-means (r .content .header)) in
-      rw (stands .item .header, ne-eqb (dataLen (r .content .header)) 0 (means .0))
+      ap (λ (f : At.Found). itemBy (klvOfFound f) (r .place))
+      (found-there s within (record { place = r .place; type = noType; content = r .content }) (record { item = stands .item; type = tt; row = stands .row }))
 
   module _ (all : List ℕ) where
     abbrev item : Found → Tagged
@@ -127,6 +121,9 @@ module _ (forced : Bool) (s old : List ℕ) (rs : List Record) (headers : ℕ) (
   pub tagged-row : (kind of-group tag key : ℕ) → taggedOf s held (length rs) kind of-group tag key ≡ lastItemOf kind of-group tag key rs
   unfolding taggedOf lookupOf
   tagged-row kind of-group tag key =
-      rw (le-ltb 1048576 (length s) (accepted-within forced s (roomOf (length old)) rs headers e), le-ltb (roomOf (length held)) (length rs) fits,
-          rows-of-records rs (drop (length rs * rowWidth) old))
-      (from s held kind of-group tag key (drop (length rs * rowWidth) old) 0 rs refl (λ r m. read-stands forced s (roomOf (length old)) rs headers e r m))
+      rw (
+        le-ltb 1048576 (length s) (accepted-within forced s (roomOf (length old)) rs headers e),
+        le-ltb (roomOf (length held)) (length rs) fits,
+        rows-of-records rs (drop (length rs * rowWidth) old),
+      )
+      (from s (accepted-within forced s (roomOf (length old)) rs headers e) held kind of-group tag key (drop (length rs * rowWidth) old) 0 rs refl (λ r m. read-stands forced s (roomOf (length old)) rs headers e r m))

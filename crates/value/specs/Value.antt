@@ -97,12 +97,13 @@ textOf h payload row = upToZero (take (h .size) (drop (row * h .size) payload))
 abbrev pub room : KLV → Grid
 room h = record { kind = kind.Texts; rows = h .repeat; columns = h .size; letter = code "B" }
 
+-- a text is a row, its kept bytes the columns
+abbrev pub textRows : KLV → List ℕ → Value
+textRows h payload = record { kind = kind.Texts; rows = h .repeat; columns = λ row. length (textOf h payload row); element = placed (room h) payload }
+
 -- one UTF-8 text for each size bytes, refused with 7 if any of them is not
 abbrev pub texts : KLV → List ℕ → Outcome
-texts h payload =
-    cond (areWellFormed (h .size) payload)
-    (readable (record { kind = kind.Texts; rows = h .repeat; columns = λ row. length (textOf h payload row); element = placed (room h) payload }))
-    (refused refusals.unreadable)
+texts h payload = cond (areWellFormed (h .size) payload) (readable (textRows h payload)) (refused refusals.unreadable)
 
 -- ---- a date: milliseconds since 1970
 

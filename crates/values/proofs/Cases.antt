@@ -17,6 +17,7 @@ use Rattle.foundation.specs.Fuel.{fix, run}
 use Rattle.texts.specs.Texts.{chunks, areWellFormed}
 use Rattle.dates.specs.Date.{dateOf}
 use Rattle.custom_type.specs.Expansion.{expanded, goneThrough, step, copied}
+use Rattle.foundation.specs.Digits.{worthOf}
 use Rattle.custom_type.specs.Number.{readable, withoutPlus}
 use Rattle.value.specs.declared.Kind.the-variants as kind
 use Rattle.value.specs.declared.Read.{Read}
@@ -124,7 +125,7 @@ pub order : (elementAtPlace (typed "f[257]" (0 ∷ 0 ∷ []) (itemOf "ABCD" "?" 
     × (elementAtPlace (itemOf "CORI" "s" 6 1 (1 ∷ 2 ∷ 3 ∷ 4 ∷ 5 ∷ 6 ∷ [])) 0 none 9 0 ≡ read.Refused 6 0)
     × (elementAtPlace (itemOf "ABCD" "c" 2 2 (178 ∷ 0 ∷ 65 ∷ 0 ∷ [])) 0 none 9 0 ≡ read.Refused 7 0)
     × (elementAtPlace (itemOf "ABCD" "U" 1 1 (50 ∷ [])) 0 none 9 0 ≡ read.Refused 6 0)
-unfolding foundAt firstItem planOf isQuaternions widthOf oneText letterPlan typeAt typeText expanded goneThrough step reading widthsOf wellFormed table fix run chunks areWellFormed dateOf copied readable withoutPlus
+unfolding foundAt firstItem planOf isQuaternions widthOf oneText letterPlan typeAt typeText expanded goneThrough step reading widthsOf wellFormed table fix run chunks areWellFormed dateOf copied readable withoutPlus worthOf
 order = (refl, refl, refl, refl, refl)
 
 -- a payload over the limit (1) comes before all of them, at place 0

@@ -1,11 +1,10 @@
 -- `are_digits` meets its contract: the characters are digits where those that are left are. Assumes nothing.
-use Prim.Native.Nat.{suc, _+_, _-_, _≤_, _<_}
+use Prim.Native.Nat.{_-_}
 use mathlib.Core.Path.{_≡_, refl, sym, _∙_}
 use native.Mathlib.Numerals.{add-one}
 use native.Mathlib.Omega.{arith}
-use borrow.Author.Needs.{needs}
-use lib.ListN.{length, drop, getD}
-use Rattle.line.specs.Read.{worthOf, areDigits}
+use lib.ListN.{length, drop}
+use Rattle.foundation.specs.Digits.{areDigits}
 use Rattle.line.proofs.Reading.{no-digit, digit-more, digits-end}
 use Rattle.line.proofs.are_digits.Statement.{statement}
 use Rattle.line.proofs.are_digits.Tie as tie

@@ -1,12 +1,12 @@
 -- `decode` meets its contract: after i bytes the first i are pasted. Assumes nothing.
-use Prim.Native.Nat.{ℕ, suc, _+_, _*_, _-_, _≤_, _<_}
+use Prim.Native.Nat.{ℕ, suc, _+_, _*_, _-_, _≤_}
 use mathlib.Core.Path.{_≡_, refl, sym, ap, _∙_}
 use native.Mathlib.Nat.{zero-add}
 use native.Mathlib.Numerals.{add-one}
 use native.Mathlib.Omega.{arith}
 use lib.ListN.{length, getD, set, length-set}
 use lib.Seq.{paste, paste-zero, paste-suc, take-length}
-use Rattle.line.specs.Read.{worthOf, bytesIn}
+use Rattle.line.specs.Read.{bytesIn}
 use Rattle.line.proofs.Reading.{digit-at, length-bytesIn, byte-at}
 use Rattle.line.proofs.decode.Statement.{statement}
 use Rattle.line.proofs.decode.Tie as tie

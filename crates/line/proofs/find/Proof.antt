@@ -4,7 +4,7 @@ use mathlib.Core.Path.{_≡_, refl}
 use native.Mathlib.Numerals.{add-one}
 use native.Mathlib.Omega.{arith}
 use lib.ListN.{length, drop}
-use Rattle.line.specs.Read.{before}
+use Rattle.foundation.specs.Pieces.{before}
 use Rattle.line.proofs.Finding.{found-here, not-here, at-end}
 use Rattle.line.proofs.find.Statement.{statement}
 use Rattle.line.proofs.find.Tie as tie

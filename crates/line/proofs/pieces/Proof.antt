@@ -1,11 +1,11 @@
 -- `pieces` meets its contract: those that are counted and those that are left are all, and one is counted in both. Assumes nothing.
-use Prim.Native.Nat.{suc, _+_, _-_, _≤_}
+use Prim.Native.Nat.{_+_, _-_, _≤_}
 use mathlib.Core.Path.{_≡_}
 use mathlib.Core.Logic.{⊎-elim}
 use native.Mathlib.Numerals.{add-one}
 use native.Mathlib.Omega.{arith}
 use lib.ListN.{length, drop}
-use Rattle.line.specs.Read.{piecesOf}
+use Rattle.foundation.specs.Pieces.{piecesOf}
 use Rattle.line.proofs.Splitting.{piece-ends, piece-goes-on, last-piece}
 use Rattle.line.proofs.pieces.Statement.{statement}
 use Rattle.line.proofs.pieces.Tie as tie

@@ -1,10 +1,10 @@
 -- `start` meets its contract: the piece asked is among those that are left, as many further as turns are left. Assumes nothing.
-use Prim.Native.Nat.{suc, _+_, _-_, _≤_}
-use mathlib.Core.Path.{_≡_, sym, ap, _∙_}
-use mathlib.Core.List.{List, []}
+use Prim.Native.Nat.{suc, _-_}
+use mathlib.Core.Path.{_≡_, _∙_}
+use mathlib.Core.List.{[]}
 use native.Mathlib.Omega.{arith}
-use lib.ListN.{length, getD, drop, length-drop}
-use Rattle.line.specs.Read.{before, upTo, piecesOf}
+use lib.ListN.{getD, drop, length-drop}
+use Rattle.foundation.specs.Pieces.{before, piecesOf}
 use Rattle.line.proofs.Reading.{before-length}
 use Rattle.line.proofs.Splitting.{leftFrom, left-start, left-next, left-past, left-here, nothing-past}
 use Rattle.line.proofs.start.Statement.{statement}

@@ -1,10 +1,10 @@
 -- `up_to` meets its contract: the part that ends where `find` stops. Assumes nothing.
-use Prim.Native.Nat.{_+_, _-_, _≤_}
-use mathlib.Core.Path.{_≡_, sym}
+use Prim.Native.Nat.{_-_, _≤_}
+use mathlib.Core.Path.{_≡_}
 use native.Mathlib.Omega.{arith}
 use borrow.Author.Needs.{needs}
 use lib.ListN.{length, drop, length-drop, drop-of-length-le}
-use Rattle.line.specs.Read.{before}
+use Rattle.foundation.specs.Pieces.{before}
 use Rattle.line.proofs.Reading.{before-length}
 use Rattle.line.proofs.up_to.Statement.{statement}
 use Rattle.line.proofs.up_to.Tie as tie

@@ -1,12 +1,12 @@
 -- `worth` meets its contract: what was read, weighed, and what is left are worth the whole. Assumes nothing.
-use Prim.Native.Nat.{suc, _+_, _*_, _-_, _/_, _^_, _≤_, _<_}
-use mathlib.Core.Path.{_≡_, refl, sym, _∙_}
+use Prim.Native.Nat.{suc, _+_, _*_, _-_, _^_, _≤_, _<_}
+use mathlib.Core.Path.{_≡_, sym, _∙_}
 use native.Mathlib.Nat.{zero-mul, zero-add}
 use native.Mathlib.Numerals.{add-one}
 use native.Mathlib.Omega.{arith}
 use borrow.Author.Needs.{needs}
-use lib.ListN.{length, drop, getD}
-use Rattle.line.specs.Read.{worthOf, worth}
+use lib.ListN.{length, drop}
+use Rattle.foundation.specs.Digits.{worth}
 use Rattle.line.proofs.Reading.{worth-more, worth-end, no-smaller, still-fits, no-longer-fits, fits-64, over-64}
 use Rattle.line.proofs.worth.Statement.{statement}
 use Rattle.line.proofs.worth.Tie as tie

@@ -1,31 +1,31 @@
 -- `with_digit` meets its contract: the test by division is that 64 bits hold the number. Assumes nothing.
 use Prim.Native.Nat.{ℕ, _+_, _*_, _-_, _/_, _^_, _≤_, _<_}
 use mathlib.Core.Path.{_≡_}
-use mathlib.Core.Bool.{and-false}
 use native.Mathlib.Omega.{arith}
-use borrow.Author.Tests.{le-leb, lt-leb, lt-ltb, le-ltb}
-use lib.Dec.{leb}
+use borrow.Author.Tests.{lt-ltb, le-ltb}
+use Rattle.foundation.specs.Digits.{worthOf}
+use Rattle.foundation.proofs.Digits.{below-digits, above-digits, decimal-digit}
 use Rattle.custom_type.specs.Held.{digits, unreadable, withDigit}
 use borrow.Author.Needs.{needs}
 use Rattle.custom_type.proofs.count.with_digit.Statement.{statement}
 use Rattle.custom_type.proofs.count.with_digit.Tie as tie
 
 low : (n c : ℕ) → c < 48 → unreadable ≡ withDigit n c
-low n c h = rw (lt-leb 48 c h)
+low n c h = rw (le-ltb (worthOf c) 10 (below-digits c h))
 
 high : (n c : ℕ) → 57 < c → unreadable ≡ withDigit n c
-high n c h = rw (lt-leb c 57 h, and-false (leb 48 c))
+high n c h = rw (le-ltb (worthOf c) 10 (above-digits c h))
 
 number : (n c : ℕ) → 48 ≤ c → c ≤ 57 → n ≤ (18446744073709551615 - (c - 48)) / 10
     → digits (n * 10 + (c - 48)) ≡ withDigit n c
 number n c l h f =
     let held : n * 10 + (c - 48) < 2 ^ 64 = omega arith in
-    rw (le-leb 48 c l, le-leb c 57 h, lt-ltb (n * 10 + (c - 48)) (2 ^ 64) held)
+    rw (decimal-digit c l h, lt-ltb (c - 48) 10 (omega arith), lt-ltb (n * 10 + (c - 48)) (2 ^ 64) held)
 
 over : (n c : ℕ) → 48 ≤ c → c ≤ 57 → (18446744073709551615 - (c - 48)) / 10 < n → unreadable ≡ withDigit n c
 over n c l h f =
     let more : 2 ^ 64 ≤ n * 10 + (c - 48) = omega arith in
-    rw (le-leb 48 c l, le-leb c 57 h, le-ltb (n * 10 + (c - 48)) (2 ^ 64) more)
+    rw (decimal-digit c l h, lt-ltb (c - 48) 10 (omega arith), le-ltb (n * 10 + (c - 48)) (2 ^ 64) more)
 
 cast-digit : tie.Need-cast-digit
 cast-digit c = search needs

@@ -4,8 +4,8 @@ use Prim.Native.Nat.{ℕ, _+_, _-_, _^_, _<_, _≤_}
 use native.Mathlib.Omega.{arith}
 use lib.Dec.{lit<}
 use lib.ListN.{getD}
-use Rattle.dates.specs.Fields.{digitsAfter, digits, field}
-use Rattle.dates.proofs.Digits.{from-none, one-more, below, above, no-more, ten-times, ten-times-fits}
+use Rattle.dates.specs.Fields.{digits, field}
+use Rattle.dates.proofs.Digits.{digitsAfter, from-none, one-more, below, above, no-more, ten-times, ten-times-fits}
 use Rattle.dates.proofs.fields.digits.Statement.{statement}
 use Rattle.dates.proofs.fields.digits.Tie as tie
 

@@ -1,7 +1,7 @@
 -- `gpmf_matrix_to_orientation` meets its contract: it is the call of its name. Assumes nothing.
 use mathlib.Core.Path.{ap, _∙_}
 use Rattle.axes.specs.Back.{orientationOf}
-use Rattle.value_answers.specs.Answers.{ofOrientation}
+use Rattle.orientation_answers.specs.Answers.{ofOrientation}
 use borrow.Author.Needs.{needs}
 use Rattle.gpmf.proofs.axes_face.gpmf_matrix_to_orientation.Statement.{statement}
 use Rattle.gpmf.proofs.axes_face.gpmf_matrix_to_orientation.Tie as tie

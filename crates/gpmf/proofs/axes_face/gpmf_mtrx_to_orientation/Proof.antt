@@ -1,6 +1,6 @@
 -- `gpmf_mtrx_to_orientation` meets its contract: it is the call of its name, told as a record. Assumes nothing.
 use mathlib.Core.Path.{ap, _∙_}
-use Rattle.value_answers.specs.Answers.{ofOrientation}
+use Rattle.orientation_answers.specs.Answers.{ofOrientation}
 use borrow.Author.Needs.{needs}
 use Rattle.gpmf.proofs.axes_face.gpmf_mtrx_to_orientation.Statement.{statement}
 use Rattle.gpmf.proofs.axes_face.gpmf_mtrx_to_orientation.Tie as tie

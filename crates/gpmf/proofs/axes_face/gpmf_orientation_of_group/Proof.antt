@@ -1,6 +1,6 @@
 -- `gpmf_orientation_of_group` meets its contract: it is the call of its name, told as a record. Assumes nothing.
 use mathlib.Core.Path.{ap, _∙_}
-use Rattle.value_answers.specs.Answers.{ofOriented}
+use Rattle.orientation_answers.specs.Answers.{ofOriented}
 use borrow.Author.Needs.{needs}
 use Rattle.gpmf.proofs.axes_face.gpmf_orientation_of_group.Statement.{statement}
 use Rattle.gpmf.proofs.axes_face.gpmf_orientation_of_group.Tie as tie

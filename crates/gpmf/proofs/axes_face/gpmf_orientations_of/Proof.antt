@@ -1,6 +1,6 @@
 -- `gpmf_orientations_of` meets its contract: it is the call of its name, told as a record. Assumes nothing.
 use mathlib.Core.Path.{ap, _∙_}
-use Rattle.value_answers.specs.Answers.{ofOrientations}
+use Rattle.orientation_answers.specs.Answers.{ofOrientations}
 use borrow.Author.Needs.{needs}
 use Rattle.gpmf.proofs.axes_face.gpmf_orientations_of.Statement.{statement}
 use Rattle.gpmf.proofs.axes_face.gpmf_orientations_of.Tie as tie

@@ -1,6 +1,6 @@
 -- `gpmf_scaled_quaternion` meets its contract: it is the call of its name, told as a record. Assumes nothing.
 use mathlib.Core.Path.{ap, _∙_}
-use Rattle.value_answers.specs.Answers.{ofScaledRow}
+use Rattle.orientation_answers.specs.Answers.{ofScaledRow}
 use borrow.Author.Needs.{needs}
 use Rattle.gpmf.proofs.group_face.gpmf_scaled_quaternion.Statement.{statement}
 use Rattle.gpmf.proofs.group_face.gpmf_scaled_quaternion.Tie as tie

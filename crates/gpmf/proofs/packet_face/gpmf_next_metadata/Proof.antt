@@ -1,6 +1,6 @@
 -- `gpmf_next_metadata` meets its contract: it is the call of its name, told as a record. Assumes nothing.
 use mathlib.Core.Path.{ap, _∙_}
-use Rattle.answers.specs.Answers.{ofNextMetadata}
+use Rattle.reading_answers.specs.Answers.{ofNextMetadata}
 use borrow.Author.Needs.{needs}
 use Rattle.gpmf.proofs.packet_face.gpmf_next_metadata.Statement.{statement}
 use Rattle.gpmf.proofs.packet_face.gpmf_next_metadata.Tie as tie

@@ -1,6 +1,6 @@
 -- `gpmf_next_metadata_in` meets its contract: it is the call of its name, told as a record. Assumes nothing.
 use mathlib.Core.Path.{ap, _∙_}
-use Rattle.answers.specs.Answers.{ofMetadataInWindow}
+use Rattle.reading_answers.specs.Answers.{ofMetadataInWindow}
 use borrow.Author.Needs.{needs}
 use Rattle.gpmf.proofs.packet_face.gpmf_next_metadata_in.Statement.{statement}
 use Rattle.gpmf.proofs.packet_face.gpmf_next_metadata_in.Tie as tie

@@ -1,6 +1,6 @@
 -- `gpmf_packets_next` meets its contract: it is the call of its name, told as a record. Assumes nothing.
 use mathlib.Core.Path.{ap, _∙_}
-use Rattle.answers.specs.Answers.{ofNextPacket}
+use Rattle.reading_answers.specs.Answers.{ofNextPacket}
 use borrow.Author.Needs.{needs}
 use Rattle.gpmf.proofs.packet_face.gpmf_packets_next.Statement.{statement}
 use Rattle.gpmf.proofs.packet_face.gpmf_packets_next.Tie as tie

@@ -1,6 +1,6 @@
 -- `gpmf_parse_metadata` meets its contract: it is the call of its name, told as a record. Assumes nothing.
 use mathlib.Core.Path.{ap, _∙_}
-use Rattle.answers.specs.Answers.{ofMetadata}
+use Rattle.reading_answers.specs.Answers.{ofMetadata}
 use borrow.Author.Needs.{needs}
 use Rattle.gpmf.proofs.reading_face.gpmf_parse_metadata.Statement.{statement}
 use Rattle.gpmf.proofs.reading_face.gpmf_parse_metadata.Tie as tie

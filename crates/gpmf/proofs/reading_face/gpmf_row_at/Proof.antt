@@ -1,6 +1,6 @@
 -- `gpmf_row_at` meets its contract: it is the call of its name, told as a record. Assumes nothing.
 use mathlib.Core.Path.{ap, _∙_}
-use Rattle.answers.specs.Answers.{ofRowAt}
+use Rattle.reading_answers.specs.Answers.{ofRowAt}
 use borrow.Author.Needs.{needs}
 use Rattle.gpmf.proofs.reading_face.gpmf_row_at.Statement.{statement}
 use Rattle.gpmf.proofs.reading_face.gpmf_row_at.Tie as tie
