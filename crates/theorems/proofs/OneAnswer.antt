@@ -261,6 +261,10 @@ use Rattle.raw_file.proofs.Packets.next.Kinds as packets-next-kinds
 use Rattle.raw_file.proofs.Packets.next.Reads as packets-next-reads
 use Rattle.raw_file.proofs.Packets.next_in.Kinds as packets-next-in-kinds
 use Rattle.raw_file.proofs.Packets.next_in.Reads as packets-next-in-reads
+use Rattle.window.proofs.next_step.Kinds as next-step-kinds
+use Rattle.window.proofs.next_step.Reads as next-step-reads
+use Rattle.window.proofs.keep.Kinds as keep-kinds
+use Rattle.window.proofs.keep.Reads as keep-reads
 use Rattle.raw_metadata.proofs.next_metadata.Kinds as next-metadata-kinds
 use Rattle.raw_metadata.proofs.next_metadata.Reads as next-metadata-reads
 use Rattle.raw_metadata.proofs.next_metadata_in.Kinds as next-metadata-in-kinds
@@ -557,6 +561,12 @@ packets-next κs a x y s t p q = p ∙ sym q
 
 pub packets-next-in : OneResult 1 packets-next-in-kinds.ps packets-next-in-kinds.r packets-next-in-reads.Learnt
 packets-next-in κs a x y s t p q = p ∙ sym q
+
+pub next-step : OneResult 1 next-step-kinds.ps next-step-kinds.r next-step-reads.Learnt
+next-step κs a x y s t p q = p ∙ sym q
+
+pub keep : OneAnswer 1 keep-kinds.ps keep-kinds.r keep-reads.Learnt (λ κs s. now (s .0))
+keep κs a x y s t p q = (p .is ∙ sym (q .is), p .leaves ∙ sym (q .leaves))
 
 pub next-metadata : OneAnswer 2 next-metadata-kinds.ps next-metadata-kinds.r next-metadata-reads.Learnt (λ κs s. now (s .1 .1 .1 .0))
 next-metadata κs a x y s t p q = (p .is ∙ sym (q .is), p .rows ∙ sym (q .rows))
