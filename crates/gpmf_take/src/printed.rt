@@ -58,7 +58,7 @@ pub(crate) fn put_long(
     let laid = make_room(out, counts.laid);
     refused(
         counts,
-        take::put_long_packet(next_number(counts), place, bytes, whole, out, laid),
+        take_lines::put_long_packet(next_number(counts), place, bytes, whole, out, laid),
     )
 }
 
@@ -92,7 +92,7 @@ fn make_room(out: &[u8], laid: usize) -> usize {
 pub(crate) fn put_totals(counts: Counts, out: &mut [u8]) {
     let laid = make_room(out, counts.laid);
     let packets = std::num::wrapping_add_u64(counts.read, counts.refused);
-    let end = take::put_totals(out, laid, packets, counts.read, counts.refused);
+    let end = take_lines::put_totals(out, laid, packets, counts.read, counts.refused);
     write(out, end);
 }
 

@@ -289,12 +289,14 @@ use Rattle.durations.proofs.get_avg_sample_duration.Kinds as get-avg-sample-dur
 use Rattle.durations.proofs.get_avg_sample_duration.Reads as get-avg-sample-duration-reads
 use Rattle.elements.proofs.exact_at.Kinds as exact-at-kinds
 use Rattle.elements.proofs.exact_at.Reads as exact-at-reads
+use Rattle.take_lines.proofs.put_packet_line.Kinds as put-packet-line-kinds
+use Rattle.take_lines.proofs.put_packet_line.Reads as put-packet-line-reads
 use Rattle.take.proofs.put_packet.Kinds as put-packet-kinds
 use Rattle.take.proofs.put_packet.Reads as put-packet-reads
-use Rattle.take.proofs.put_long_packet.Kinds as put-long-packet-kinds
-use Rattle.take.proofs.put_long_packet.Reads as put-long-packet-reads
-use Rattle.take.proofs.put_totals.Kinds as put-totals-kinds
-use Rattle.take.proofs.put_totals.Reads as put-totals-reads
+use Rattle.take_lines.proofs.put_long_packet.Kinds as put-long-packet-kinds
+use Rattle.take_lines.proofs.put_long_packet.Reads as put-long-packet-reads
+use Rattle.take_lines.proofs.put_totals.Kinds as put-totals-kinds
+use Rattle.take_lines.proofs.put_totals.Reads as put-totals-reads
 
 -- a promise over n lifetimes, parameters and a result settles the result
 abbrev pub OneResult : (n : ℕ) (parameters : List (PK n)) (result : RK n) → Out n parameters result → Type 0
@@ -613,6 +615,9 @@ put-packet κs a x y s t p q = (
 
 pub put-long-packet : OneAnswer 1 put-long-packet-kinds.ps put-long-packet-kinds.r put-long-packet-reads.Learnt (λ κs s. now (s .1 .1 .1 .1 .0))
 put-long-packet κs a x y s t p q = (p .is ∙ sym (q .is), p .leaves ∙ sym (q .leaves))
+
+pub put-packet-line : OneAnswer 1 put-packet-line-kinds.ps put-packet-line-kinds.r put-packet-line-reads.Learnt (λ κs s. now (s .0))
+put-packet-line κs a x y s t p q = (p .is ∙ sym (q .is), p .leaves ∙ sym (q .leaves))
 
 pub put-totals : OneAnswer 1 put-totals-kinds.ps put-totals-kinds.r put-totals-reads.Learnt (λ κs s. now (s .0))
 put-totals κs a x y s t p q = (p .is ∙ sym (q .is), p .leaves ∙ sym (q .leaves))
