@@ -91,34 +91,34 @@ fn one_turn(
             rest,
         } => {
             let payload = held::part(window, packet);
-            State {
-                held,
-                places: rest,
-                counts: printed::put_packet(counts, payload, start, whole, rows, out),
-                more: true,
-            }
+            let printed = printed::put_packet(counts, payload, start, whole, rows, out);
+            turned(held, rest, printed)
         }
         Step::Long {
             start,
             bytes: count,
             rest,
-        } => State {
+        } => turned(
             held,
-            places: rest,
-            counts: printed::put_long(counts, start, count, whole, out),
-            more: true,
-        },
-        Step::Read { from, rest } => State {
-            held: held::read_on(held, from, bytes),
-            places: rest,
-            counts,
-            more: true,
-        },
+            rest,
+            printed::put_long(counts, start, count, whole, out),
+        ),
+        Step::Read { from, rest } => turned(held::read_on(held, from, bytes), rest, counts),
         Step::End => State {
             held,
             places,
             counts,
             more: false,
         },
+    }
+}
+
+// Behind a step that is not the last.
+fn turned(held: Held, places: Places, counts: Counts) -> State {
+    State {
+        held,
+        places,
+        counts,
+        more: true,
     }
 }
