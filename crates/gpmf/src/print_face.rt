@@ -14,7 +14,8 @@ ghost use Rattle.reading.specs.Walk.{readingOf, roomOf};
 ghost use Rattle.listing_line.specs.Line.{answerLine};
 ghost use Rattle.listing.specs.Listing.{rowLines, Lists};
 ghost use Rattle.listing_line.specs.Lines.{LaysLines};
-ghost use Rattle.take.specs.Take.{Takes, LaysAll, longPacket, totalsLine};
+ghost use Rattle.take_lines.specs.Lines.{LaysAll, longPacket, totalsLine};
+ghost use Rattle.take.specs.Take.{Takes};
 ghost use Rattle.answers.specs.Answers.{ofNumber};
 ghost use Rattle.reading_answers.specs.Answers.{toMetadata};
 ghost use Rattle.gpmf.specs.Lent.{DecodesAs};
@@ -143,7 +144,7 @@ pub extern "C" fn gpmf_put_long_packet(
 ) -> usize
     ensures { λ r. ⌜ LaysAll (longPacket whole number place bytes) (now (out .entry)) at r (now (out .exit)) ⌝ }
 {
-    take::put_long_packet(number, place, bytes, whole, out, at)
+    take_lines::put_long_packet(number, place, bytes, whole, out, at)
 }
 
 // Lays the counts of a take.
@@ -157,5 +158,5 @@ pub extern "C" fn gpmf_put_totals(
 ) -> usize
     ensures { λ r. ⌜ LaysAll (totalsLine packets read refused) (now (out .entry)) at r (now (out .exit)) ⌝ }
 {
-    take::put_totals(out, at, packets, read, refused)
+    take_lines::put_totals(out, at, packets, read, refused)
 }

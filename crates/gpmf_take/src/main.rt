@@ -1,18 +1,17 @@
 // Prints the raw file on standard input packet by packet: a line for each, then its listing, or its refusal and the listing of its front.
 // With the argument `whole` only accepted packets are printed. The file may have any length: a window of it is held.
 mod held;
-mod long;
 mod printed;
-mod step;
 
 use held::Held;
-use long::Long;
 use printed::Counts;
+use window::Places;
+use window::Step;
 
-// The window, the long packets that it is in the midst of, what was printed, and whether the file goes on.
+// The window, its places, what was printed, and whether there is a next step.
 struct State {
     held: Held,
-    long: Long,
+    places: Places,
     counts: Counts,
     more: bool,
 }
@@ -42,12 +41,7 @@ fn take_all(
     rows: &mut [u32; 16384],
     out: &mut [u8; 262144],
 ) {
-    let mut state = State {
-        held: held::nothing(),
-        long: long::none(),
-        counts: printed::nothing(),
-        more: true,
-    };
+    let mut state = at_the_start();
     let mut turns = u64::MAX;
     while turns > 0 {
         state = one_turn(state, whole, bytes, rows, out);
@@ -60,7 +54,25 @@ fn take_all(
     printed::put_totals(state.counts, out);
 }
 
-// One packet, or one read.
+// Nothing is held, and nothing was printed.
+fn at_the_start() -> State {
+    State {
+        held: Held {
+            count: 0,
+            ended: false,
+        },
+        places: Places {
+            base: 0,
+            at: 0,
+            first: 0,
+            second: 0,
+        },
+        counts: printed::nothing(),
+        more: true,
+    }
+}
+
+// One step: a packet is printed, or more is read.
 fn one_turn(
     state: State,
     whole: bool,
@@ -69,15 +81,44 @@ fn one_turn(
     out: &mut [u8],
 ) -> State {
     let held = state.held;
-    let long = state.long;
+    let places = state.places;
+    let counts = state.counts;
     let window = held::first(bytes, held.count);
-    let step = step::next(held, long::is_sought(long), window);
-    let counts = printed::put_step(step, held, long, state.counts, whole, window, rows, out);
-    let next = long::after(step, held, long, window);
+    match window::next_step(places, window, !held.ended) {
+        Step::Held {
+            packet,
+            start,
+            rest,
+        } => {
+            let payload = held::part(window, packet);
+            let printed = printed::put_packet(counts, payload, start, whole, rows, out);
+            turned(held, rest, printed)
+        }
+        Step::Long {
+            start,
+            bytes: count,
+            rest,
+        } => turned(
+            held,
+            rest,
+            printed::put_long(counts, start, count, whole, out),
+        ),
+        Step::Read { from, rest } => turned(held::read_on(held, from, bytes), rest, counts),
+        Step::End => State {
+            held,
+            places,
+            counts,
+            more: false,
+        },
+    }
+}
+
+// Behind a step that is not the last.
+fn turned(held: Held, places: Places, counts: Counts) -> State {
     State {
-        held: held::after(step, held, bytes),
-        long: next,
+        held,
+        places,
         counts,
-        more: step::goes_on(step),
+        more: true,
     }
 }

@@ -1,10 +1,5 @@
 // What is printed of the packets, and how many of them there were.
-use crate::held::Held;
-use crate::long::Long;
-use crate::step::Step;
-
-// The most bytes that are held of a packet.
-pub(crate) const MOST_BYTES: usize = 65536;
+use take::Taken;
 
 // More than a packet takes: two lines, and those of the most rows, 2,049 of at most 56 bytes.
 const MOST_PRINTED: usize = 131072;
@@ -24,35 +19,8 @@ pub(crate) fn nothing() -> Counts {
     }
 }
 
-// Prints what a step prints.
-pub(crate) fn put_step(
-    step: Step,
-    held: Held,
-    long: Long,
-    counts: Counts,
-    whole: bool,
-    window: &[u8],
-    rows: &mut [u32],
-    out: &mut [u8],
-) -> Counts {
-    match step {
-        Step::Print { packet, rest: _ } => {
-            let payload = crate::held::part(window, packet.start, packet.end);
-            let place = crate::held::in_file(held, packet.start);
-            put_packet(counts, payload, place, whole, rows, out)
-        }
-        Step::PrintLong { end } => {
-            let place = crate::held::in_file(held, end);
-            put_longs(counts, long, place, whole, out)
-        }
-        Step::Read { from: _ } => counts,
-        Step::ReadPast { from: _ } => counts,
-        Step::End => counts,
-    }
-}
-
 // Prints a packet, by its bytes and its start in the file.
-fn put_packet(
+pub(crate) fn put_packet(
     counts: Counts,
     payload: &[u8],
     place: u64,
@@ -60,12 +28,15 @@ fn put_packet(
     rows: &mut [u32],
     out: &mut [u8],
 ) -> Counts {
-    if MOST_BYTES < payload.len() {
-        let end = std::num::wrapping_add_u64(place, payload.len() as u64);
-        return put_long(counts, place, end, whole, out);
-    }
     let laid = make_room(out, counts.laid);
-    let taken = take::put_packet(payload, next_number(counts), place, whole, rows, out, laid);
+    counted(
+        counts,
+        take::put_packet(payload, next_number(counts), place, whole, rows, out, laid),
+    )
+}
+
+// One more read, or one more refused.
+fn counted(counts: Counts, taken: Taken) -> Counts {
     if taken.accepted {
         return Counts {
             read: one_more(counts.read),
@@ -76,23 +47,19 @@ fn put_packet(
     refused(counts, taken.end)
 }
 
-// Prints a packet over what is held, by its start in the file and its end.
-fn put_long(counts: Counts, place: u64, end: u64, whole: bool, out: &mut [u8]) -> Counts {
+// Prints a packet over what is held, by its start in the file and its length.
+pub(crate) fn put_long(
+    counts: Counts,
+    place: u64,
+    bytes: u64,
+    whole: bool,
+    out: &mut [u8],
+) -> Counts {
     let laid = make_room(out, counts.laid);
-    let bytes = std::num::wrapping_sub_u64(end, place);
     refused(
         counts,
-        take::put_long_packet(next_number(counts), place, bytes, whole, out, laid),
+        take_lines::put_long_packet(next_number(counts), place, bytes, whole, out, laid),
     )
-}
-
-// Prints the long packets that end at a place in the file.
-fn put_longs(counts: Counts, long: Long, end: u64, whole: bool, out: &mut [u8]) -> Counts {
-    let one = put_long(counts, long.first, end, whole, out);
-    if long.first == long.second {
-        return one;
-    }
-    put_long(one, long.second, end, whole, out)
 }
 
 // One more refused, and so much laid.
@@ -125,7 +92,7 @@ fn make_room(out: &[u8], laid: usize) -> usize {
 pub(crate) fn put_totals(counts: Counts, out: &mut [u8]) {
     let laid = make_room(out, counts.laid);
     let packets = std::num::wrapping_add_u64(counts.read, counts.refused);
-    let end = take::put_totals(out, laid, packets, counts.read, counts.refused);
+    let end = take_lines::put_totals(out, laid, packets, counts.read, counts.refused);
     write(out, end);
 }
 

@@ -1,5 +1,5 @@
--- What is printed of packets, computed by the definitions: document 01's case 12 as a packet, refused ones with their fronts, one over what is
--- held, and the last line. Assumes nothing.
+-- What is printed of packets, computed by the definitions: document 01's case 12 as a packet, refused ones with their fronts; and one
+-- over what is held beside it. Assumes nothing.
 use Prim.Native.Nat.{ℕ}
 use Prim.Native.String.{String}
 use mathlib.Core.Path.{_≡_, refl}
@@ -18,7 +18,8 @@ use Rattle.reading.specs.Walk.{refused, roleOf, itemOutcome, walk, readingOf}
 use Rattle.text.specs.Numerals.{decimal}
 use Rattle.shown_key.specs.Key.{shownKey}
 use Rattle.listing_line.specs.Line.{columns, answerLine}
-use Rattle.take.specs.Take.{packet, longPacket, totalsLine}
+use Rattle.take_lines.specs.Lines.{longPacket}
+use Rattle.take.specs.Take.{packet}
 
 -- a packet, by whether only accepted ones are printed, its number, its start, the room for rows, how many bytes it has, and its bytes in hex
 abbrev taken : Bool → ℕ → ℕ → ℕ → ℕ → ℕ → List ℕ
@@ -46,10 +47,6 @@ prints =
     -- for want of room: the front has the row that there was room for, or none
     ∷ (taken false 3 8 1 24 twoRows, "packet 3 at 8 bytes 24\nrefused 5 at 12\nfront rows 1 headers 1\n0 - ABCD 66 4 1 0\n")
     ∷ (taken false 3 8 0 24 twoRows, "packet 3 at 8 bytes 24\nrefused 5 at 0\nfront rows 0 headers 0\n")
-    -- over what is held
-    ∷ (flatten (longPacket false 4 8 65537), "packet 4 at 8 bytes 65537\nrefused 1 at 0\nfront rows 0 headers 0\n")
-    ∷ (flatten (longPacket true 4 8 65537), "")
-    ∷ (flatten (totalsLine 4 1 3), "packets 4 read 1 refused 3\n")
     ∷ []
 
 pub are-printed : map (λ (c : List ℕ × String). c .0) prints ≡ map (λ (c : List ℕ × String). characters (c .1)) prints

@@ -15,8 +15,9 @@ use Rattle.listing_line.specs.Line.{answerLine}
 use Rattle.listing.specs.Listing.{rowLines, Lists}
 use Rattle.listing_line.specs.Lines.{LaysLines}
 use Rattle.listing.proofs.Listed.{lists-rows, lists-refused}
-use Rattle.take.specs.Take.{packetLine, leftOut, LaysAll, Fronts, Takes}
-use Rattle.take.proofs.Laying.{none, listed, more}
+use Rattle.take_lines.specs.Lines.{packetLine, LaysAll}
+use Rattle.take.specs.Take.{leftOut, Fronts, Takes}
+use Rattle.take_lines.proofs.Laying.{none, listed, more}
 
 module _ (number place : ℕ) (s old : List ℕ) (answer : Metadata) (new : List ℕ) where
   abbrev outcome : Outcome

@@ -1,4 +1,4 @@
--- What is printed of a take: for each packet of a raw file a line, its listing, and where it is refused the listing of its front; and the counts at the end.
+-- What is printed of a packet of a take: its line, its listing, and where it is refused the listing of its front.
 -- Document 01, Cases, 12, has the listing, and Refusal numbers the front ("The walk's place is the start of the outermost item concerned").
 -- Assumes nothing: these are definitions.
 use Prim.Native.Nat.{ℕ}
@@ -7,28 +7,14 @@ use mathlib.Core.Bool.{Bool, true, false}
 use mathlib.Core.List.{List, [], _∷_, _++_}
 use lib.ListN.{length, take}
 use Rattle.foundation.specs.Text.{characters}
-use Rattle.reading.specs.Refusal.{tooLong}
 use Rattle.reading.specs.Walk.{Outcome, accepted, refused, readingOf, roomOf}
 use Rattle.reading.specs.Answer.{lent}
 use Rattle.walk.specs.declared.Metadata.{Metadata}
 use Rattle.walk.specs.declared.Metadata.the-variants.{Rows, Refused}
-use Rattle.text.specs.Numerals.{decimal}
 use Rattle.listing.specs.Listing.{listing}
-use Rattle.listing_line.specs.Lines.{laidLines, behindLines}
+use Rattle.take_lines.specs.Lines.{packetLine, LaysAll}
 
 -- ---- the parts of what is printed, one behind the other
-
--- a line of three numbers, each behind its word
-abbrev pub countsLine : List ℕ → ℕ → List ℕ → ℕ → List ℕ → ℕ → List (List ℕ)
-countsLine one n two m three k = one ∷ decimal n ∷ two ∷ decimal m ∷ three ∷ decimal k ∷ characters "\n" ∷ []
-
--- `packet K at P bytes N`: its number from 1, and its start and its length in the file
-abbrev pub packetLine : ℕ → ℕ → ℕ → List (List ℕ)
-packetLine number place bytes = countsLine (characters "packet ") number (characters " at ") place (characters " bytes ") bytes
-
--- `packets A read B refused C`
-abbrev pub totalsLine : ℕ → ℕ → ℕ → List (List ℕ)
-totalsLine packets read not-read = countsLine (characters "packets ") packets (characters " read ") read (characters " refused ") not-read
 
 -- `front rows N headers M`, and the lines of the front: the bytes before the place, read with the same room
 abbrev pub front : List ℕ → ℕ → ℕ → List (List ℕ)
@@ -39,11 +25,6 @@ abbrev pub packet : Bool → ℕ → ℕ → List ℕ → ℕ → Outcome → Li
 packet whole number place payload room (accepted rs headers) = packetLine number place (length payload) ++ listing (accepted rs headers)
 packet true number place payload room (refused why at) = []
 packet false number place payload room (refused why at) = packetLine number place (length payload) ++ (listing (refused why at) ++ front payload room at)
-
--- A PACKET OVER WHAT IS HELD, by its length: `refused 1 at 0`, before which nothing stands
-abbrev pub longPacket : Bool → ℕ → ℕ → ℕ → List (List ℕ)
-longPacket true number place bytes = []
-longPacket false number place bytes = packetLine number place bytes ++ (listing (refused tooLong 0) ++ (characters "front " ∷ listing (accepted [] 0)))
 
 -- whether a packet is left out: a refused one, "of the archivist's whole take"
 abbrev pub leftOut : Bool → Metadata → Bool
@@ -62,11 +43,6 @@ lentBy true payload old (refused why at) = old
 lentBy false payload old (refused why at) = lent (readingOf false (take at payload) (roomOf (length old))) old
 
 -- ---- what is promised
-
--- texts laid one behind the other: the place that is answered, and the buffer
-pub record LaysAll (texts : List (List ℕ)) (out : List ℕ) (at answer : ℕ) (after : List ℕ) : Type 0 where
-  pub is : answer ≡ behindLines texts out at
-  pub leaves : after ≡ laidLines texts out at
 
 -- the listing of a front, with the lent numbers
 pub record Fronts (payload : List ℕ) (place : ℕ) (old out : List ℕ) (at answer : ℕ) (new after : List ℕ) : Type 0 where

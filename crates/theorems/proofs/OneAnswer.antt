@@ -261,6 +261,10 @@ use Rattle.raw_file.proofs.Packets.next.Kinds as packets-next-kinds
 use Rattle.raw_file.proofs.Packets.next.Reads as packets-next-reads
 use Rattle.raw_file.proofs.Packets.next_in.Kinds as packets-next-in-kinds
 use Rattle.raw_file.proofs.Packets.next_in.Reads as packets-next-in-reads
+use Rattle.window.proofs.next_step.Kinds as next-step-kinds
+use Rattle.window.proofs.next_step.Reads as next-step-reads
+use Rattle.window.proofs.keep.Kinds as keep-kinds
+use Rattle.window.proofs.keep.Reads as keep-reads
 use Rattle.raw_metadata.proofs.next_metadata.Kinds as next-metadata-kinds
 use Rattle.raw_metadata.proofs.next_metadata.Reads as next-metadata-reads
 use Rattle.raw_metadata.proofs.next_metadata_in.Kinds as next-metadata-in-kinds
@@ -285,12 +289,14 @@ use Rattle.durations.proofs.get_avg_sample_duration.Kinds as get-avg-sample-dur
 use Rattle.durations.proofs.get_avg_sample_duration.Reads as get-avg-sample-duration-reads
 use Rattle.elements.proofs.exact_at.Kinds as exact-at-kinds
 use Rattle.elements.proofs.exact_at.Reads as exact-at-reads
+use Rattle.take_lines.proofs.put_packet_line.Kinds as put-packet-line-kinds
+use Rattle.take_lines.proofs.put_packet_line.Reads as put-packet-line-reads
 use Rattle.take.proofs.put_packet.Kinds as put-packet-kinds
 use Rattle.take.proofs.put_packet.Reads as put-packet-reads
-use Rattle.take.proofs.put_long_packet.Kinds as put-long-packet-kinds
-use Rattle.take.proofs.put_long_packet.Reads as put-long-packet-reads
-use Rattle.take.proofs.put_totals.Kinds as put-totals-kinds
-use Rattle.take.proofs.put_totals.Reads as put-totals-reads
+use Rattle.take_lines.proofs.put_long_packet.Kinds as put-long-packet-kinds
+use Rattle.take_lines.proofs.put_long_packet.Reads as put-long-packet-reads
+use Rattle.take_lines.proofs.put_totals.Kinds as put-totals-kinds
+use Rattle.take_lines.proofs.put_totals.Reads as put-totals-reads
 
 -- a promise over n lifetimes, parameters and a result settles the result
 abbrev pub OneResult : (n : ℕ) (parameters : List (PK n)) (result : RK n) → Out n parameters result → Type 0
@@ -558,6 +564,12 @@ packets-next κs a x y s t p q = p ∙ sym q
 pub packets-next-in : OneResult 1 packets-next-in-kinds.ps packets-next-in-kinds.r packets-next-in-reads.Learnt
 packets-next-in κs a x y s t p q = p ∙ sym q
 
+pub next-step : OneResult 1 next-step-kinds.ps next-step-kinds.r next-step-reads.Learnt
+next-step κs a x y s t p q = p ∙ sym q
+
+pub keep : OneAnswer 1 keep-kinds.ps keep-kinds.r keep-reads.Learnt (λ κs s. now (s .0))
+keep κs a x y s t p q = (p .is ∙ sym (q .is), p .leaves ∙ sym (q .leaves))
+
 pub next-metadata : OneAnswer 2 next-metadata-kinds.ps next-metadata-kinds.r next-metadata-reads.Learnt (λ κs s. now (s .1 .1 .1 .0))
 next-metadata κs a x y s t p q = (p .is ∙ sym (q .is), p .rows ∙ sym (q .rows))
 
@@ -603,6 +615,9 @@ put-packet κs a x y s t p q = (
 
 pub put-long-packet : OneAnswer 1 put-long-packet-kinds.ps put-long-packet-kinds.r put-long-packet-reads.Learnt (λ κs s. now (s .1 .1 .1 .1 .0))
 put-long-packet κs a x y s t p q = (p .is ∙ sym (q .is), p .leaves ∙ sym (q .leaves))
+
+pub put-packet-line : OneAnswer 1 put-packet-line-kinds.ps put-packet-line-kinds.r put-packet-line-reads.Learnt (λ κs s. now (s .0))
+put-packet-line κs a x y s t p q = (p .is ∙ sym (q .is), p .leaves ∙ sym (q .leaves))
 
 pub put-totals : OneAnswer 1 put-totals-kinds.ps put-totals-kinds.r put-totals-reads.Learnt (λ κs s. now (s .0))
 put-totals κs a x y s t p q = (p .is ∙ sym (q .is), p .leaves ∙ sym (q .leaves))

@@ -9,14 +9,8 @@ Inv-loop whole bytes₀ rows₀ out₀ state₀ turns₀ bytes rows out state tu
 abbrev μ-loop : tie.MeasureT-loop
 μ-loop whole bytes₀ rows₀ out₀ state₀ turns₀ bytes rows out state turns = turns
 
-nothing-requires : tie.Need-nothing-requires Inv-loop μ-loop
-nothing-requires c κs = tt
-
-none-requires : tie.Need-none-requires Inv-loop μ-loop
-none-requires c κs = tt
-
-nothing-requires-2 : tie.Need-nothing-requires-2 Inv-loop μ-loop
-nothing-requires-2 c κs = tt
+at-the-start-requires : tie.Need-at-the-start-requires Inv-loop μ-loop
+at-the-start-requires c κs = tt
 
 loop-holds : tie.Need-loop-holds Inv-loop μ-loop
 loop-holds c = tt
@@ -51,9 +45,7 @@ take-all-spec =
     (tie.spec
     Inv-loop
     μ-loop
-    nothing-requires
-    none-requires
-    nothing-requires-2
+    at-the-start-requires
     loop-holds
     one-turn-requires
     sub-turns

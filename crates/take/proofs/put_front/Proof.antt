@@ -1,5 +1,5 @@
 -- `put_front` meets its contract: the word, and the listing of the bytes before the place. Assumes nothing.
-use Rattle.take.proofs.Laying.{one, listed, more}
+use Rattle.take_lines.proofs.Laying.{one, listed, more}
 use borrow.Author.Needs.{needs}
 use Rattle.take.proofs.put_front.Statement.{statement}
 use Rattle.take.proofs.put_front.Tie as tie

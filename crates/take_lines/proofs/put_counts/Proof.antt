@@ -1,8 +1,8 @@
 -- `put_counts` meets its contract: three words with their numbers, and the end of a line. Assumes nothing.
-use Rattle.take.proofs.Laying.{one, more}
+use Rattle.take_lines.proofs.Laying.{one, more}
 use borrow.Author.Needs.{needs}
-use Rattle.take.proofs.put_counts.Statement.{statement}
-use Rattle.take.proofs.put_counts.Tie as tie
+use Rattle.take_lines.proofs.put_counts.Statement.{statement}
+use Rattle.take_lines.proofs.put_counts.Tie as tie
 
 put-count-requires : tie.Need-put-count-requires
 put-count-requires c κs = search needs

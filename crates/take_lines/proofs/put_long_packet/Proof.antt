@@ -1,8 +1,8 @@
 -- `put_long_packet` meets its contract: its line, the refusal, and a front of no rows. Assumes nothing.
-use Rattle.take.proofs.Laying.{none, one, lines, more}
+use Rattle.take_lines.proofs.Laying.{none, one, lines, more}
 use borrow.Author.Needs.{needs}
-use Rattle.take.proofs.put_long_packet.Statement.{statement}
-use Rattle.take.proofs.put_long_packet.Tie as tie
+use Rattle.take_lines.proofs.put_long_packet.Statement.{statement}
+use Rattle.take_lines.proofs.put_long_packet.Tie as tie
 
 returns : tie.Need-returns
 returns c = rw (c .if1 .taken) none

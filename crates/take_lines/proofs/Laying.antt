@@ -7,7 +7,7 @@ use Rattle.text.specs.Lay.{Lays}
 use Rattle.listing.specs.Listing.{listing, Lists}
 use Rattle.listing_line.specs.Lines.{laidLines, behindLines, LaysLines}
 use Rattle.listing_line.proofs.Lines.{laid-more, behind-more}
-use Rattle.take.specs.Take.{LaysAll}
+use Rattle.take_lines.specs.Lines.{LaysAll}
 
 pub none : {out : List ℕ} {at : ℕ} → LaysAll [] out at at out
 unfolding laidLines behindLines

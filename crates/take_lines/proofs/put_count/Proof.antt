@@ -1,8 +1,8 @@
 -- `put_count` meets its contract: two texts, one behind the other. Assumes nothing.
-use Rattle.take.proofs.Laying.{one, more}
+use Rattle.take_lines.proofs.Laying.{one, more}
 use borrow.Author.Needs.{needs}
-use Rattle.take.proofs.put_count.Statement.{statement}
-use Rattle.take.proofs.put_count.Tie as tie
+use Rattle.take_lines.proofs.put_count.Statement.{statement}
+use Rattle.take_lines.proofs.put_count.Tie as tie
 
 put-bytes-requires : tie.Need-put-bytes-requires
 put-bytes-requires c κs = search needs

@@ -1,0 +1,11 @@
+pub mod Answers
+pub mod Keeping
+pub mod Held
+pub mod Standing
+pub mod Tells
+pub mod Sought
+pub mod Past
+pub mod Cutting
+pub mod Reading
+pub mod Taking
+pub mod Cases
