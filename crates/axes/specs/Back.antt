@@ -9,7 +9,6 @@ use lib.IntN.{negsuc}
 use lib.Ieee.{Float, nan, fin, lt}
 use lib.ListN.{length, getD}
 use Rattle.foundation.specs.Refusals as refusals
-use Rattle.axes.specs.declared.Axes.{Axes}
 use Rattle.axes.specs.declared.Orientation.{Orientation}
 use Rattle.axes.specs.declared.Orientation.the-variants.{Is, Refused}
 

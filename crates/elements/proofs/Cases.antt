@@ -3,7 +3,7 @@ use Prim.Native.Nat.{ℕ}
 use Prim.Native.Char.{code}
 use mathlib.Core.Path.{_≡_, refl}
 use mathlib.Core.List.{List, [], _∷_, map}
-use lib.IntN.{pos, negsuc}
+use lib.IntN.{negsuc}
 use lib.Ieee.{binary32, binary64, ofBits, ofInt, add, div}
 use Rattle.fixed.specs.Fixed.{q15-16, q31-32}
 use Rattle.foundation.specs.BigEndian.{bytesOf}

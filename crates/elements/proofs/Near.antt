@@ -1,9 +1,8 @@
 -- The f64 that a Q number is read as lies within 2^-22 of its exact form, read off the same bytes (document 01, Values). From the law of its two parts.
 -- Assumes nothing.
-use Prim.Native.Nat.{ℕ, _/_, _%_, _^_, _<_}
+use Prim.Native.Nat.{ℕ, _/_, _%_, _^_}
 use Prim.Native.Char.{code}
 use mathlib.Core.Path.{_≡_, refl}
-use native.Mathlib.Omega.{arith}
 use lib.Ieee.{Float}
 use Rattle.fixed.specs.Fixed.{q31-32}
 use Rattle.fixed.specs.Distance.{Within}

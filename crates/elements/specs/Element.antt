@@ -1,7 +1,7 @@
 -- One element of a value: a signed or unsigned whole number, an f32 or an f64 (document 01, Values; GPMF description, Types).
 -- Assumes nothing: these are definitions.
 use Prim.Native.Nat.{ℕ, _+_, _-_, _/_, _%_, _^_}
-use mathlib.Core.Bool.{Bool, cond}
+use mathlib.Core.Bool.{cond}
 use mathlib.Core.List.{List}
 use lib.Dec.{ltb, leb}
 use lib.IntN.{ℤ, pos, negsuc}

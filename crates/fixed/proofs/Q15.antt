@@ -8,7 +8,7 @@ use lib.IntN.{ℤ, pos, natAbs}
 use lib.Signed.{mag, natAbs-le}
 use lib.Ieee.{fin, binary32, add, div, ofInt}
 use Rattle.fixed.specs.Distance.{Equals, Within, rounded}
-use Rattle.fixed.specs.Fixed.{divisor15-16, exactForm, quotient, q15-16, q15-16-exact}
+use Rattle.fixed.specs.Fixed.{divisor15-16, quotient, q15-16, q15-16-exact}
 use Rattle.fixed.specs.Laws.{Parts15-16, ExactDivision, RoundedOnce, ExactSum, NoWider, Within1024th, Attained}
 use Rattle.fixed.proofs.Near.{equals, looser}
 use Rattle.fixed.proofs.PowerOfTwo.{quotient-exact, reading-once}

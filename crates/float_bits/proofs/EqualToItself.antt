@@ -1,9 +1,9 @@
 -- A float is equal to itself unless it is a NaN. Assumes nothing.
-use Prim.Native.Nat.{ℕ, _*_}
+use Prim.Native.Nat.{_*_}
 use mathlib.Core.Path.{_≡_, refl, sym, _∙_, subst}
 use mathlib.Core.Bool.{Bool, true, false, not}
 use borrow.Author.Tests.{eq-eqb}
-use lib.Dec.{T, eqb}
+use lib.Dec.{T}
 use lib.Ieee.{Float, nan, inf, fin, eq, isNan, up, down}
 
 pub eq-itself : (x : Float) → eq x x ≡ not (isNan x)

@@ -1,6 +1,6 @@
 -- A function defined by a bound on the depth of its calls (fuel), and its equation, proved once for every such function.
 -- `fix step x` answers `step (fix step) x` wherever `step` asks only at states of a smaller measure. Assumes nothing.
-use Prim.Native.Nat.{ℕ, zero, suc, _<_, _≤_}
+use Prim.Native.Nat.{ℕ, zero, suc, _<_}
 use mathlib.Core.Path.{_≡_}
 use native.Mathlib.Nat.{not-suc-le-zero}
 use native.Mathlib.Omega.{arith}

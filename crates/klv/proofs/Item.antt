@@ -1,16 +1,16 @@
 -- What stands first in some bytes: the three cases by lengths, and an item laid out and read back. Assumes nothing.
-use Prim.Native.Nat.{ℕ, _+_, _-_, _*_, _<_, _≤_}
+use Prim.Native.Nat.{ℕ, _+_, _-_, _<_, _≤_}
 use mathlib.Core.Path.{_≡_, refl, sym, ap, _∙_}
-use mathlib.Core.List.{List, [], _∷_, _++_}
-use mathlib.Core.Bool.{Bool, true, false, cond}
+use mathlib.Core.List.{List}
+use mathlib.Core.Bool.{true, false}
 use native.Mathlib.Omega.{arith}
 use native.Mathlib.Decide.{decLe, decLt}
 use borrow.Author.Tests.{lt-ltb, le-ltb, le-leb, lt-leb}
-use lib.Dec.{ltb, leb}
+use lib.Dec.{leb}
 use lib.ListN.{length, take, drop, length-take, length-drop}
 use lib.Seq.{drop-drop}
 use Rattle.klv.specs.declared.KLV.{KLV}
-use Rattle.klv.specs.Item.{headerOf, dataLen, aligned, First, few, past, item, behind, firstItem}
+use Rattle.klv.specs.Item.{headerOf, dataLen, aligned, few, past, item, behind, firstItem}
 
 -- an item that stands first in s: its header, its payload and what is behind it are parts of s
 pub record Stands (s : List ℕ) (h : KLV) (payload rest : List ℕ) : Type 0 where

@@ -2,7 +2,7 @@
 use Prim.Native.Nat.{ℕ, _+_, _-_, _≤_, min}
 use mathlib.Core.Path.{_≡_, refl, sym, ap, _∙_, subst}
 use mathlib.Core.List.{List, [], _∷_, _++_, append-assoc, append-nil}
-use mathlib.Core.Bool.{Bool, true}
+use mathlib.Core.Bool.{true}
 use native.Mathlib.Decide.{decLe}
 use native.Mathlib.Omega.{arith}
 use borrow.Author.Tests.{le-leb}
@@ -13,7 +13,7 @@ use Rattle.foundation.specs.BigEndian.{bigEndian, bytesOf, AreBytes}
 use Rattle.foundation.proofs.BigEndian.{read-back, laid-back, part-bound}
 use Rattle.foundation.proofs.Bytes.{take-bytes, drop-bytes}
 use Rattle.klv.specs.declared.KLV.{KLV}
-use Rattle.klv.specs.Item.{headerOf, dataLen, aligned, First, item, behind, firstItem, Written, headerBytes, laidOut, Padded, whole, missing}
+use Rattle.klv.specs.Item.{headerOf, dataLen, aligned, item, behind, firstItem, Written, headerBytes, laidOut, Padded, whole, missing}
 use Rattle.klv.specs.Level.{node, itemsOf}
 use Rattle.klv.proofs.Item.{first-behind, of-item, Lengths, item-lengths}
 use Rattle.klv.proofs.Level.{items-first}

@@ -1,13 +1,13 @@
 -- The items of some bytes: the one equation by fuel, and what a node of the tree comes of. Assumes nothing.
-use Prim.Native.Nat.{ℕ, _+_, _-_, _<_, _≤_}
+use Prim.Native.Nat.{ℕ}
 use mathlib.Core.Path.{_≡_, refl, sym, ap, _∙_}
 use mathlib.Core.List.{List, []}
 use native.Mathlib.Omega.{arith}
 use lib.ListN.{length}
-use Rattle.foundation.specs.Fuel.{fix, Falls, fix-eq}
+use Rattle.foundation.specs.Fuel.{Falls, fix-eq}
 use Rattle.klv.specs.declared.KLV.{KLV}
-use Rattle.klv.specs.Item.{dataLen, aligned, First, few, past, item, firstItem}
-use Rattle.klv.specs.Level.{Level, left, broken, node, levelFrom, stepItems, itemsOf}
+use Rattle.klv.specs.Item.{First, few, past, item, firstItem}
+use Rattle.klv.specs.Level.{Level, left, node, levelFrom, stepItems, itemsOf}
 use Rattle.klv.proofs.Item.{item-lengths, first-few}
 
 -- an item's payload and what stands behind it are shorter than the bytes that it stands in

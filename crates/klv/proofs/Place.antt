@@ -11,7 +11,7 @@ use Rattle.klv.specs.declared.KLV.{KLV}
 use Rattle.klv.specs.declared.Header.the-variants.{Item, Short, Past}
 use Rattle.klv.specs.Item.{dataLen, aligned, First, few, past, item, firstItem, payloadAt, endAt, nextAt}
 use Rattle.klv.specs.Header.{told, headerAt}
-use Rattle.klv.specs.Level.{Level, left, broken, node, itemsOf}
+use Rattle.klv.specs.Level.{left, broken, node, itemsOf}
 use Rattle.klv.proofs.Item.{of-few, of-item, Stands}
 use Rattle.klv.proofs.Level.{items-first}
 

@@ -9,7 +9,7 @@ use mathlib.Core.List.{List, [], _∷_, _++_, map}
 use native.Mathlib.Omega.{arith}
 use borrow.Author.Tests.{leb-true}
 use lib.Dec.{leb}
-use lib.ListN.{length, take, drop}
+use lib.ListN.{length, drop}
 use Rattle.foundation.specs.BigEndian.{bytesOf}
 use Rattle.foundation.specs.Fuel.{run, fix}
 use Rattle.foundation.specs.Text.{key}

@@ -3,10 +3,8 @@ use Prim.Native.Nat.{ℕ}
 use mathlib.Core.Path.{_≡_, ap, sym, _∙_}
 use mathlib.Core.List.{List}
 use Rattle.foundation.specs.Text.{key}
-use Rattle.klv.specs.declared.KLV.{KLV}
 use Rattle.tagged.specs.Tagged.{taggedOf}
 use Rattle.tagged.specs.declared.Tagged.{Tagged}
-use Rattle.tagged.specs.declared.Tagged.the-variants as tagged
 use Rattle.orientation.specs.declared.Oriented.{Oriented}
 use Rattle.orientation.specs.Group.{byPair, byGroup, orientationOfGroup}
 

@@ -4,7 +4,6 @@ use lib.IntN.{pos, negsuc}
 use lib.Ieee.{nan, inf, binary64, div, ofInt}
 use mathlib.Core.Bool.{true, false}
 use Rattle.quaternions.specs.Quaternion.{negated16, scaledBy}
-use Rattle.quaternions.specs.declared.Quaternion.{Quaternion}
 
 -- -32,768 stays, and its neighbours change their signs
 lowest : negated16 (negsuc 32767) ≡ negsuc 32767

@@ -1,6 +1,6 @@
 -- Texts laid one behind the other: one, some and then more, and the listing of a payload among them. Assumes nothing.
 use Prim.Native.Nat.{ℕ}
-use mathlib.Core.Path.{_≡_, refl, sym, _∙_}
+use mathlib.Core.Path.{refl, sym, _∙_}
 use mathlib.Core.List.{List, [], _∷_, _++_}
 use Rattle.reading.specs.Walk.{Outcome}
 use Rattle.text.specs.Lay.{Lays}

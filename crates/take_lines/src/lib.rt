@@ -1,6 +1,5 @@
 // The lines of a take, laid into a lent buffer: that of a packet, those of a packet over what is held, and the counts.
 use metadata::Metadata;
-ghost use mathlib.Core.Path.{_≡_};
 ghost use mathlib.Core.List.{[], _∷_};
 ghost use Rattle.text.specs.Numerals.{decimal};
 ghost use Rattle.take_lines.specs.Lines.{countsLine, packetLine, totalsLine, longPacket, LaysAll};

@@ -1,6 +1,6 @@
 -- ONE ANSWER for each function of the library for other languages, as OneAnswer has it for each public call. Assumes nothing.
 use Prim.Native.Nat.{ℕ}
-use mathlib.Core.Path.{_≡_, sym, _∙_}
+use mathlib.Core.Path.{sym, _∙_}
 use mathlib.Core.List.{List}
 use denote.Ref.{now}
 use Rattle.theorems.proofs.OneAnswer.{OneResult, OneAnswer}

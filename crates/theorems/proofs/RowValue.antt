@@ -1,24 +1,21 @@
 -- THE VALUE OF A ROW: asked for at the places that a row of an accepted reading names, a value is that of the row's own header, payload and TYPE text.
 -- So it is never refused with 1, 2 or 12: with 6, 7 or 8 by the value itself, or with 13 for a row or a column outside. From what the laws of reading say
 -- to stand at a record's places. Assumes nothing.
-use Prim.Native.Nat.{ℕ, _*_, _≤_, _<_}
-use Prim.Native.Char.{code}
-use mathlib.Core.Path.{_≡_, refl, ap, _∙_, subst}
-use mathlib.Core.Logic.{_≢_, _⊎_, inl, inr}
+use Prim.Native.Nat.{ℕ, _*_}
+use mathlib.Core.Path.{_≡_, refl, _∙_}
+use mathlib.Core.Logic.{_⊎_, inl, inr}
 use mathlib.Core.Bool.{Bool, true, false, cond}
 use mathlib.Core.List.{List, [], _∷_, List·Memᴰ}
-use native.Mathlib.Decide.{decLe}
-use native.Mathlib.Omega.{arith}
-use lib.Dec.{eqb, leb, ltb}
-use lib.ListN.{length, drop}
+use lib.Dec.{leb}
+use lib.ListN.{length}
 use denote.Ref.{now}
 use Rattle.klv.specs.declared.KLV.{KLV}
 use Rattle.elements.specs.Types.{widthOf}
 use Rattle.texts.specs.Texts.{areWellFormed}
-use Rattle.reading.specs.Record.{TypeInForce, noType, typeAt, Record, typePlace}
-use Rattle.reading.specs.Walk.{rowItem, accepted, readingOf}
+use Rattle.reading.specs.Record.{Record, typePlace}
+use Rattle.reading.specs.Walk.{accepted, readingOf}
 use Rattle.reading.proofs.Payload.{accepted-within}
-use Rattle.reading.proofs.Stand.{ItemStands, InForceStands, Stands, read-stands}
+use Rattle.reading.proofs.Stand.{read-stands}
 use Rattle.dates.specs.declared.Date.{Date}
 use Rattle.dates.specs.declared.Date.the-variants.{Milliseconds, TooFew, Unreadable}
 use Rattle.dates.specs.Date.{dateOf}

@@ -1,6 +1,6 @@
 -- The next step by the cases that the code goes by. Assumes nothing.
 use Prim.Native.Nat.{ℕ, _+_, _-_, _<_, _≤_, max}
-use mathlib.Core.Path.{_≡_, refl, _∙_, sym, ap}
+use mathlib.Core.Path.{_≡_, _∙_, sym, ap}
 use mathlib.Core.List.{List}
 use mathlib.Core.Bool.{Bool, true, false, cond}
 use borrow.Author.Tests.{lt-ltb, le-ltb}
@@ -14,8 +14,8 @@ use Rattle.raw_file.specs.declared.Packet.{Packet}
 use Rattle.raw_file.specs.declared.InWindow.{InWindow}
 use Rattle.window.specs.declared.Places.{Places}
 use Rattle.window.specs.declared.Step.{Step}
-use Rattle.window.specs.declared.Step.the-variants.{Held, Long, Read, End}
-use Rattle.window.specs.Steps.{mostHeld, overHeld, inFile, startAt, cutFrom, readFrom, tellPacket, overlapping, readPast, tellNext, tellLong, seekEnd, nextStep}
+use Rattle.window.specs.declared.Step.the-variants.{Held, Long, Read}
+use Rattle.window.specs.Steps.{mostHeld, overHeld, inFile, cutFrom, readFrom, tellPacket, overlapping, readPast, tellNext, tellLong, seekEnd, nextStep}
 
 pub overlaps : (base : ℕ) (found : Found) (at x y : ℕ) → found ≡ At at → x ≡ inFile base at → y ≡ inFile x 8 → y ≡ overlapping base found
 overlaps base found at x y is e f = f ∙ ap (λ k. inFile k 8) e ∙ sym (ap (overlapping base) is)

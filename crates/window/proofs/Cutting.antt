@@ -1,7 +1,7 @@
 -- A step while no end is sought: a packet is told, or more is read, and nothing that is left to be told is lost. Assumes nothing.
-use Prim.Native.Nat.{ℕ, _+_, _-_, _<_, _≤_, _^_, max}
+use Prim.Native.Nat.{ℕ, _+_, _-_, _<_, _≤_, _^_}
 use mathlib.Core.Path.{_≡_, refl, _∙_, sym, ap}
-use mathlib.Core.List.{List, [], _∷_, _++_, map}
+use mathlib.Core.List.{List, [], _∷_, map}
 use mathlib.Core.Bool.{Bool, true, false, cond}
 use native.Mathlib.Omega.{arith}
 use borrow.Author.Tests.{ltb-true, ltb-false}
@@ -22,7 +22,7 @@ use Rattle.raw_file.proofs.Stream.{toldAndLeft}
 use Rattle.window.specs.declared.Places.{Places}
 use Rattle.window.specs.declared.Step.the-variants.{Held, Long}
 use Rattle.window.specs.Steps.{mostHeld, overHeld, inFile, cutFrom, readFrom, tellPacket, readPast, tellNext}
-use Rattle.window.specs.Taking.{Told, held, long, bytesIn, toldOf}
+use Rattle.window.specs.Taking.{Told, long, toldOf}
 use Rattle.window.proofs.Standing.{left, left-packets, Stands, in-file, told-in}
 use Rattle.window.proofs.Tells.{toldLeft, Keeping, told-long, told-held, stands-on}
 use Rattle.window.proofs.Past.{past-keeps}

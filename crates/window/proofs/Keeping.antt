@@ -4,8 +4,8 @@ use mathlib.Core.Path.{_≡_, refl, _∙_, sym, ap}
 use mathlib.Core.List.{List, [], _∷_, _++_, append-assoc}
 use native.Mathlib.Numerals.{add-one}
 use native.Mathlib.Omega.{arith}
-use lib.ListN.{length, take, drop, getD, set, length-take, length-drop, length-append, drop-of-length-le}
-use lib.Seq.{take-all, take-suc, drop-cons, getD-append-add, getD-drop, set-at, length-take-le}
+use lib.ListN.{length, take, drop, getD, set, length-take, length-drop, length-append}
+use lib.Seq.{take-suc, drop-cons, getD-append-add, getD-drop, set-at, length-take-le}
 use Rattle.window.specs.Steps.{keptOf, Keeps}
 
 -- so many bytes from a place on stand at the front

@@ -2,7 +2,7 @@
 -- Assumes nothing.
 use Prim.Native.Nat.{ℕ, _+_, _-_, _<_, _≤_, _%_, _^_}
 use mathlib.Core.Path.{_≡_, refl, _∙_, sym, ap}
-use mathlib.Core.List.{List, [], _∷_, _++_}
+use mathlib.Core.List.{List, _∷_, _++_}
 use mathlib.Core.Bool.{Bool, true, false}
 use native.Mathlib.Omega.{arith}
 use borrow.Author.Tests.{lt-ltb, ltb-true, ltb-false}
@@ -13,7 +13,6 @@ use Rattle.search.specs.declared.Found.{Found}
 use Rattle.search.specs.declared.Found.the-variants.{At, Nothing}
 use Rattle.search.proofs.First.{found}
 use Rattle.search.proofs.Find.{here}
-use Rattle.raw_file.specs.declared.Packet.{Packet}
 use Rattle.raw_file.specs.declared.NextPacket.{NextPacket}
 use Rattle.raw_file.specs.declared.NextPacket.the-variants.{Next}
 use Rattle.raw_file.specs.declared.InWindow.the-variants as in-window
@@ -21,11 +20,11 @@ use Rattle.raw_file.specs.Packets.{orEnd, devcOrEnd, packetAt, packetsFrom, nex
 use Rattle.raw_file.specs.Window.{inWindow}
 use Rattle.raw_file.proofs.Next.{devc-or-end, same-end, behind-devc, handed-out, next-packet}
 use Rattle.raw_file.proofs.Cursor.{handed}
-use Rattle.raw_file.proofs.Window.{stays, goes-on-late, more-from, more-packet}
-use Rattle.raw_file.proofs.Moved.{packetOn, nextOn}
+use Rattle.raw_file.proofs.Window.{stays, goes-on-late, more-packet}
+use Rattle.raw_file.proofs.Moved.{nextOn}
 use Rattle.window.specs.declared.Places.{Places}
 use Rattle.window.specs.Steps.{mostHeld, overHeld, inFile, startAt, overlapping, readPast}
-use Rattle.window.proofs.Standing.{endingAt, soughtFrom, left, left-packets, left-sought, Stands, reaches, in-file, ends-in, next-in-it}
+use Rattle.window.proofs.Standing.{endingAt, left, left-packets, left-sought, Stands, in-file, ends-in, next-in-it}
 use Rattle.window.proofs.Tells.{Keeping, stands-on}
 
 -- a DEVC in what is held and to come, so many bytes in front of the window's end, and the packet of which ends no more than three before that

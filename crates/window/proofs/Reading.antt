@@ -5,7 +5,7 @@ use mathlib.Core.Path.{_≡_, refl}
 use mathlib.Core.List.{List}
 use mathlib.Core.Bool.{Bool, true, false, cond}
 use native.Mathlib.Omega.{arith}
-use borrow.Author.Tests.{ltb-true, ltb-false}
+use borrow.Author.Tests.{ltb-false}
 use lib.Dec.{ltb}
 use lib.ListN.{length}
 use Rattle.search.specs.Search.{findFrom}
@@ -16,7 +16,6 @@ use Rattle.raw_file.specs.declared.InWindow.{InWindow}
 use Rattle.raw_file.specs.declared.InWindow.the-variants as in-window
 use Rattle.raw_file.specs.Window.{inWindow}
 use Rattle.window.specs.declared.Places.{Places}
-use Rattle.window.specs.declared.Step.{Step}
 use Rattle.window.specs.declared.Step.the-variants.{Held, Long, Read, End}
 use Rattle.window.specs.Steps.{mostHeld, overHeld, inFile, cutFrom, readFrom, tellPacket, readPast, tellNext, seekEnd, nextStep}
 use Rattle.window.proofs.Cutting.{not-more}

@@ -4,7 +4,7 @@ use mathlib.Core.Path.{_≡_, refl, _∙_, sym, ap}
 use mathlib.Core.List.{List, [], _∷_, _++_, append-nil, map}
 use mathlib.Core.Bool.{Bool, true, false}
 use native.Mathlib.Omega.{arith}
-use borrow.Author.Tests.{lt-ltb, le-ltb, ltb-true, ltb-false}
+use borrow.Author.Tests.{ltb-true, ltb-false}
 use lib.Dec.{ltb}
 use lib.ListN.{length}
 use Rattle.search.specs.Search.{findFrom}
@@ -17,8 +17,8 @@ use Rattle.raw_file.proofs.Next.{devc-or-end, same-end}
 use Rattle.raw_file.proofs.Window.{stays, goes-on-late}
 use Rattle.window.specs.declared.Places.{Places}
 use Rattle.window.specs.Steps.{mostHeld, inFile, tellLong, readFrom, seekEnd}
-use Rattle.window.specs.Taking.{Told, long, toldOf}
-use Rattle.window.proofs.Standing.{endingAt, soughtFrom, left, left-packets, left-sought, Stands, reaches, in-file, ends-in}
+use Rattle.window.specs.Taking.{Told, toldOf}
+use Rattle.window.proofs.Standing.{endingAt, left, left-packets, left-sought, Stands, reaches, in-file, ends-in}
 use Rattle.window.proofs.Tells.{toldLeft, Keeping, told-long, stands-on}
 
 module _ (file : List ℕ) (small : length file < 2 ^ 64) {window toCome : List ℕ} {p : Places} (stands : Stands file window toCome p) (sought : 0 < p .first) where

@@ -1,8 +1,8 @@
 -- A window in its file: the bytes in front of it are done with, those behind it are still to come, and the packets that are left to be told are
 -- those from its place on, or first those whose end is sought. Assumes nothing.
-use Prim.Native.Nat.{ℕ, _+_, _-_, _<_, _≤_, _^_}
+use Prim.Native.Nat.{ℕ, _+_, _<_, _≤_, _^_}
 use mathlib.Core.Path.{_≡_, refl, _∙_, sym, ap}
-use mathlib.Core.List.{List, [], _∷_, _++_, append-assoc, append-nil, map}
+use mathlib.Core.List.{List, [], _∷_, _++_, append-assoc, append-nil}
 use mathlib.Core.Bool.{Bool, true, false, cond}
 use native.Mathlib.Omega.{arith}
 use native.Mathlib.Nat.{mod-eq-of-lt}
@@ -13,13 +13,11 @@ use lib.Seq.{drop-drop, drop-append-le, drop-append-seam, length-take-le}
 use Rattle.raw_file.specs.declared.Packet.{Packet}
 use Rattle.raw_file.specs.Packets.{devcOrEnd, packetsFrom, nextPacket}
 use Rattle.raw_file.specs.Window.{inWindow}
-use Rattle.raw_file.proofs.Next.{devc-or-end, same-end}
 use Rattle.raw_file.proofs.Cursor.{handed, next-first}
-use Rattle.raw_file.proofs.Moved.{packetOn, nextOn, next-on, end-on}
+use Rattle.raw_file.proofs.Moved.{nextOn, next-on, end-on}
 use Rattle.raw_file.proofs.Stream.{toldAndLeft, window-told, last-told}
 use Rattle.window.specs.declared.Places.{Places}
 use Rattle.window.specs.Steps.{mostHeld, inFile}
-use Rattle.window.specs.Taking.{Told, toldOf}
 
 -- a packet whose end was sought, in front of others; a start of 0 is that of none
 abbrev pub endingAt : ℕ → ℕ → List Packet → List Packet

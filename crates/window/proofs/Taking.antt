@@ -16,7 +16,7 @@ use Rattle.window.specs.declared.Step.{Step}
 use Rattle.window.specs.declared.Step.the-variants.{Held, Long, Read, End}
 use Rattle.window.specs.Steps.{tellNext, seekEnd, nextStep}
 use Rattle.window.specs.Taking.{Told, held, long, bytesIn, toldOf, anyLeft, atStart, Takes, ends, tellsHeld, tellsLong, readsOn}
-use Rattle.window.proofs.Standing.{left, left-packets, Stands}
+use Rattle.window.proofs.Standing.{left-packets, Stands}
 use Rattle.window.proofs.Tells.{toldLeft, Keeping}
 use Rattle.window.proofs.Sought.{sought-keeps}
 use Rattle.window.proofs.Cutting.{cut-keeps}

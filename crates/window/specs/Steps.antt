@@ -11,7 +11,6 @@ use Rattle.search.specs.declared.Found.{Found}
 use Rattle.search.specs.declared.Found.the-variants.{At, Nothing}
 use Rattle.raw_file.specs.Window.{inWindow}
 use Rattle.raw_file.specs.declared.Packet.{Packet}
-use Rattle.raw_file.specs.declared.Packets.{Packets}
 use Rattle.raw_file.specs.declared.InWindow.{InWindow}
 use Rattle.raw_file.specs.declared.InWindow.the-variants as in-window
 use Rattle.window.specs.declared.Places.{Places}

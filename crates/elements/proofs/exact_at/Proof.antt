@@ -8,7 +8,6 @@ use borrow.Author.Tests.{le-leb, lt-leb}
 use lib.ListN.{length, take, drop}
 use Rattle.foundation.specs.BigEndian.{bigEndian}
 use Rattle.foundation.proofs.BigEndian.{read-whole}
-use Rattle.fixed.specs.declared.Exact.{Exact}
 use Rattle.elements.specs.Element.{exactOf, exactAt}
 use Rattle.elements.proofs.exact_at.Statement.{statement}
 use Rattle.elements.proofs.exact_at.Tie as tie

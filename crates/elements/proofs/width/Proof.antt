@@ -1,9 +1,8 @@
 -- `width` meets its contract: each arm at its letters, by one law on the keys of an arm. Assumes nothing.
 use mathlib.Core.Path.{_≡_, refl}
-use mathlib.Core.List.{List, [], _∷_}
-use Prim.Native.Nat.{ℕ, _≤_}
+use mathlib.Core.List.{[], _∷_}
+use Prim.Native.Nat.{ℕ}
 use lib.Dec.{lit≤}
-use Rattle.foundation.specs.Text.{characters}
 use Rattle.elements.specs.Types.{widthOf}
 use Rattle.elements.proofs.Keys.{by-keys, no-key}
 use Rattle.elements.proofs.width.Statement.{statement}

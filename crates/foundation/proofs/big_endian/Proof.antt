@@ -4,7 +4,7 @@ use Prim.Native.Nat.{ℕ, _-_, _≤_, _<_, _^_, min}
 use native.Mathlib.Omega.{arith}
 use borrow.Author.Needs.{needs}
 use lib.Dec.{lit<}
-use lib.ListN.{length, take, getD}
+use lib.ListN.{length, take}
 use Rattle.foundation.specs.BigEndian.{bigEndian}
 use Rattle.foundation.proofs.BigEndian.{next-byte, next-bound, next-fits}
 use Rattle.foundation.proofs.Parts.{take-min}

@@ -1,5 +1,5 @@
 -- `first_header` meets its contract: the three cases of what stands first. Assumes nothing.
-use mathlib.Core.Path.{_≡_, sym, ap, _∙_}
+use mathlib.Core.Path.{sym, ap, _∙_}
 use native.Mathlib.Omega.{arith}
 use borrow.Author.Needs.{needs}
 use Rattle.klv.specs.declared.Header.the-variants.{Item}

@@ -5,7 +5,7 @@ use mathlib.Core.List.{List}
 use native.Mathlib.Omega.{arith}
 use borrow.Author.Needs.{needs}
 use lib.Dec.{lit≤}
-use lib.ListN.{length, length-take, take, drop, getD}
+use lib.ListN.{length-take, take, drop, getD}
 use Rattle.foundation.specs.BigEndian.{bigEndian, AreBytes}
 use Rattle.foundation.proofs.BigEndian.{read-whole, part-bound}
 use Rattle.foundation.proofs.Bytes.{drop-bytes}

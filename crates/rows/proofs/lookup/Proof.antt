@@ -1,13 +1,12 @@
 -- `lookup` meets its contract. The loop's invariant: what is found among all the rows is what is found among those that are left. Assumes nothing.
-use Prim.Native.Nat.{_≤_, _<_, _-_}
-use mathlib.Core.Path.{_≡_, sym, ap, _∙_}
+use Prim.Native.Nat.{_≤_}
+use mathlib.Core.Path.{_≡_, sym, _∙_}
 use mathlib.Core.Bool.{true, false}
 use native.Mathlib.Omega.{arith}
 use lib.ListN.{length}
 use borrow.Author.Needs.{needs}
 use Rattle.reading.specs.Walk.{roomOf}
 use Rattle.rows.specs.Lookup.{lookupOf}
-use Rattle.rows.specs.declared.Found.the-variants.{At, Nothing, Refused}
 use Rattle.rows.proofs.Search.{among, among-step, among-none, fits, too-many}
 use Rattle.rows.proofs.lookup.Statement.{statement}
 use Rattle.rows.proofs.lookup.Tie as tie

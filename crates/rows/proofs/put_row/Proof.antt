@@ -1,5 +1,5 @@
 -- `put_row` meets its contract: eight stores within the room, or none. Assumes nothing.
-use Prim.Native.Nat.{_<_, _≤_}
+use Prim.Native.Nat.{_<_}
 use native.Mathlib.Omega.{arith}
 use lib.ListN.{length, length-set}
 use Rattle.reading.specs.Walk.{roomOf}

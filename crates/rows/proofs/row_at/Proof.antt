@@ -1,9 +1,8 @@
 -- `row_at` meets its contract: the row where the room has it. Assumes nothing.
-use mathlib.Core.Path.{sym, ap, _∙_}
-use mathlib.Core.Bool.{Bool, cond}
+use mathlib.Core.Path.{ap}
 use native.Mathlib.Omega.{arith}
-use Rattle.rows.specs.Row.{rowOf, rowAt}
-use Rattle.rows.specs.declared.RowAt.the-variants.{Is, Outside}
+use Rattle.rows.specs.Row.{rowAt}
+use Rattle.rows.specs.declared.RowAt.the-variants.{Is}
 use Rattle.rows.proofs.Laid.{has-row, has-no-row}
 use borrow.Author.Needs.{needs}
 use Rattle.rows.proofs.row_at.Statement.{statement}

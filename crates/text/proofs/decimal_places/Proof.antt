@@ -1,5 +1,5 @@
 -- `decimal_places` meets its contract: the digits counted and those of the rest are the number's, and the last is counted from the start. Assumes nothing.
-use Prim.Native.Nat.{_+_, _/_, _≤_}
+use Prim.Native.Nat.{_+_, _≤_}
 use mathlib.Core.Path.{_≡_}
 use native.Mathlib.Omega.{arith}
 use lib.ListN.{length}

@@ -1,12 +1,12 @@
 -- `put_negative` meets its contract: where both fit, the minus and the digits behind it are the two joined. Assumes nothing.
-use Prim.Native.Nat.{ℕ, _+_, _≤_, _<_}
-use mathlib.Core.Path.{_≡_, refl, sym, ap, _∙_}
+use Prim.Native.Nat.{_+_, _≤_, _<_}
+use mathlib.Core.Path.{refl, sym, _∙_}
 use mathlib.Core.List.{[], _∷_}
 use native.Mathlib.Omega.{arith}
 use borrow.Author.Needs.{needs}
 use borrow.Author.Tests.{le-leb, lt-leb, leb-true, leb-false}
 use lib.ListN.{length, set, length-set}
-use Rattle.text.specs.Lay.{full, Lays}
+use Rattle.text.specs.Lay.{Lays}
 use Rattle.text.specs.Numerals.{decimal}
 use Rattle.text.proofs.Decimal.{last-decimal}
 use Rattle.text.proofs.Laying.{lays-whole, lays-nothing, lays-all, over-one}

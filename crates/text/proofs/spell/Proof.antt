@@ -1,10 +1,8 @@
 -- `spell` meets its contract: each turn lays one digit more, from the last to the first. Assumes nothing.
-use Prim.Native.Nat.{suc, _+_, _-_, _/_, _%_, _<_}
-use mathlib.Core.Path.{_≡_, refl, subst}
+use Prim.Native.Nat.{suc, _-_}
+use mathlib.Core.Path.{_≡_, refl}
 use native.Mathlib.Nat.{mod-lt}
 use native.Mathlib.Omega.{arith}
-use borrow.Author.Needs.{needs}
-use lib.ListN.{set, length-set}
 use Rattle.text.proofs.Spelling.{Spelling, one-more, all-laid}
 use Rattle.text.proofs.spell.Statement.{statement}
 use Rattle.text.proofs.spell.Tie as tie

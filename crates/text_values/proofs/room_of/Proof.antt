@@ -1,6 +1,5 @@
 -- `room_of` meets its contract: the text stands past the end, is cut short by it, or is whole. Assumes nothing.
 use Prim.Native.Nat.{_*_, _≤_}
-use mathlib.Core.Path.{_≡_}
 use native.Mathlib.Nat.{mul-le-mul}
 use native.Mathlib.Omega.{arith}
 use borrow.Author.Needs.{needs}

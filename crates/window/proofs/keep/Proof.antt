@@ -1,6 +1,6 @@
 -- `keep` meets its contract: each turn moves one byte to the front. Assumes nothing.
 use Prim.Native.Nat.{_+_, _-_, _≤_, min}
-use mathlib.Core.Path.{_≡_, refl, _∙_, sym, ap}
+use mathlib.Core.Path.{_≡_, _∙_, ap}
 use native.Mathlib.Omega.{arith}
 use borrow.Author.Needs.{needs}
 use lib.ListN.{length}

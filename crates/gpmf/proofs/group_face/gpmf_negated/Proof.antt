@@ -1,5 +1,5 @@
 -- `gpmf_negated` meets its contract: it is the call of its name. Assumes nothing.
-use mathlib.Core.Path.{_≡_, sym, ap, _∙_}
+use mathlib.Core.Path.{ap, _∙_}
 use Rattle.quaternions.specs.Quaternion.{negated16}
 use mir.Syntax.{w16}
 use mir.ValLaws.{toZ-ofZ}

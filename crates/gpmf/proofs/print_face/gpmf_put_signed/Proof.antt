@@ -1,5 +1,4 @@
 -- `gpmf_put_signed` meets its contract: it is the call of its name. Assumes nothing.
-use mathlib.Core.Path.{_≡_, sym, ap, _∙_}
 use mir.Syntax.{w64}
 use mir.ValLaws.{toZ-ofZ}
 use borrow.Author.Needs.{needs}

@@ -1,5 +1,4 @@
 -- `KLV::is_type_text` meets its contract: the key, and what `is_one_text` answers. Assumes nothing.
-use mathlib.Core.Path.{_∙_, sym}
 use borrow.Author.Needs.{needs}
 use borrow.Author.Tests.{eq-eqb, ne-eqb}
 use Rattle.klv.specs.OneText.{typeText}

@@ -1,12 +1,10 @@
 -- `filters::by_letters` meets its contract: as long as there is no hit, the search has come to the loop's place without finding. Assumes nothing.
 use Prim.Native.Nat.{_≤_, _+_, _-_}
 use mathlib.Core.Path.{_≡_, refl, _∙_, ap}
-use mathlib.Core.Bool.{Bool, false, _&&_}
+use mathlib.Core.Bool.{false}
 use native.Mathlib.Omega.{arith}
 use borrow.Author.Needs.{needs}
-use lib.Dec.{eqb}
-use lib.ListN.{getD}
-use Rattle.search.specs.Search.{findFrom, letter}
+use Rattle.search.specs.Search.{findFrom}
 use Rattle.search.proofs.Find.{past-place, not-two-letters}
 use Rattle.search.proofs.filters.by_letters.Statement.{statement}
 use Rattle.search.proofs.filters.by_letters.Tie as tie

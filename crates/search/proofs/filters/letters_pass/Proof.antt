@@ -1,6 +1,6 @@
 -- `filters::letters_pass` meets its contract: the search has come to the loop's place without finding. Assumes nothing.
 use Prim.Native.Nat.{_≤_, _-_}
-use mathlib.Core.Path.{_≡_, refl, _∙_}
+use mathlib.Core.Path.{_≡_, _∙_}
 use borrow.Author.Needs.{needs}
 use Rattle.search.specs.Search.{findFrom}
 use Rattle.search.proofs.filters.letters_pass.Statement.{statement}
