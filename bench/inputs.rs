@@ -90,7 +90,7 @@ pub fn hard_files() -> Vec<(&'static str, Vec<u8>)> {
         ("bytes of no order", random_bytes()),
         ("`DEV`, over and over", over_and_over(b"DEV")),
         ("`D--C`, over and over", over_and_over(b"D--C")),
-        ("`DDDCCC`, over and over: at every second place a `D` with a `C` three behind", over_and_over(b"DDDCCC")),
+        ("`DDDCCC`, over and over: half of its places are a `D` with a `C` three behind", over_and_over(b"DDDCCC")),
         ("`D--C-EV-`, over and over", over_and_over(b"D--C-EV-")),
         ("`DEV-EVC-D--C-`, over and over: no filter of ours passes a block of it", over_and_over(b"DEV-EVC-D--C-")),
         ("`DEVCxxxx`, over and over", over_and_over(b"DEVCxxxx")),

@@ -1,4 +1,4 @@
-//! Memory: the peak of a process that reads 1 and 1,000 packets with our library, and what either side asks of the heap.
+//! Memory: the peak of a process that reads 0, 1 and 1,000 packets with our library, and what either side asks of the heap.
 use crate::cut;
 use crate::heap::{Heap, counted};
 use crate::inputs::Take;

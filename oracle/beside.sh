@@ -4,7 +4,7 @@
 # Where GPMF_LIB names a folder with libgpmf.a, that is asked; else what `./gpmf lib` builds.
 set -eu
 [ $# -ge 1 ] || { echo "usage: $0 DOCS_SRC [SEED [PAYLOADS [FILE ..]]]" >&2; exit 2; }
-here=$(cd "$(dirname "$0")" && pwd)
+here=$(CDPATH='' cd -- "$(dirname -- "$0")" && pwd)
 docs=$1 seed=${2:-1} payloads=${3:-100000}
 shift
 [ $# -eq 0 ] || shift
@@ -13,6 +13,7 @@ if [ -z "${GPMF_LIB:-}" ]; then
     "$here/../gpmf" lib >&2
     GPMF_LIB=$here/../target/lib
 fi
+GPMF_LIB=$(CDPATH='' cd -- "$GPMF_LIB" && pwd)
 export GPMF_LIB
 "$here/build.sh" "$docs"
 (cd "$here" && cargo build --release --offline --features beside --bin beside)

@@ -3,8 +3,8 @@
 # klv.rs, gopro/mod.rs and tags_impl.rs are copied byte for byte; the needed parts of util.rs are cut out of it.
 set -eu
 [ $# -eq 1 ] || { echo "usage: $0 DOCS_SRC" >&2; exit 2; }
-docs=$(cd "$1" && pwd)
-cd "$(dirname "$0")"
+docs=$(CDPATH='' cd -- "$1" && pwd)
+CDPATH='' cd -- "$(dirname -- "$0")"
 
 # the path of a published file, which must be the text that the recorded answers come from
 published() { # path below DOCS_SRC, SHA-256
@@ -74,7 +74,8 @@ lines() { cut_out "$gopro" "$1" "$2"; }
 } > src/gopro/cut_from_published.rs
 
 # the crates come from Debian's packages, and nothing from a network
-registry=$(dpkg -L librust-byteorder-dev | sed -n 's,\(.*/cargo/registry\)/byteorder-[^/]*$,\1,p' | head -n 1)
+registry=$(dpkg -L librust-byteorder-dev 2>/dev/null | sed -n 's,\(.*/cargo/registry\)/byteorder-[^/]*$,\1,p' | head -n 1)
+[ -n "$registry" ] || { echo "build.sh: librust-byteorder-dev is not installed (README.md lists what is needed)" >&2; exit 1; }
 mkdir -p .cargo
 cat > .cargo/config.toml <<END
 [source.crates-io]

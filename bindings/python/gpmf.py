@@ -61,7 +61,7 @@ MEANINGS: Dict[int, str] = {
     2: "an item's payload runs past the end of its level (for a value read: of the payload given)",
     3: "the search for a container's or a payload's last item meets 1 to 7 bytes, too few for a header",
     4: "a container with a payload stands at depth 16; the outermost items have depth 0",
-    5: "a row, written or claimed, does not fit the room: the lent numbers / 8, rounded down, and at most 4,096 rows",
+    5: "a row, written or claimed, or an element does not fit the room; for rows that is the lent numbers / 8, rounded down, and at most 4,096",
     6: "an item's payload has too few bytes for the shape of its value",
     7: "a text of the value, or its date, is not readable",
     8: "a TYPE text expands to more than 256 characters",

@@ -282,7 +282,7 @@ impl<'a> Item<'a> {
         columns_at(self.payload, self.row.place as usize, self.type_place(), row)
     }
 
-    /// The element at a row and a column of its value. Refused with 6, 7, 8, 12 or 13.
+    /// The element at a row and a column of its value. Refused with 2, 6, 7, 8, 12 or 13.
     ///
     /// ```
     /// let reading = gpmf::Reading::of(b"ABCDB\x05\x00\x01abcde")?;

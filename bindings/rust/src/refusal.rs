@@ -23,7 +23,7 @@ const MEANINGS: [&str; 13] = [
     "an item's payload runs past the end of its level (for a value read: of the payload given)",
     "the search for a container's or a payload's last item meets 1 to 7 bytes, too few for a header",
     "a container with a payload stands at depth 16; the outermost items have depth 0",
-    "a row, written or claimed, does not fit the room: the lent numbers / 8, rounded down, and at most 4,096 rows",
+    "a row, written or claimed, or an element does not fit the room; for rows that is the lent numbers / 8, rounded down, and at most 4,096",
     "an item's payload has too few bytes for the shape of its value",
     "a text of the value, or its date, is not readable",
     "a TYPE text expands to more than 256 characters",

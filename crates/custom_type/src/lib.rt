@@ -18,7 +18,7 @@ pub enum Expanded {
     TooLong,
 }
 
-// How many characters a text stands for. No copy is counted: the first run that does not fit ends it.
+// How many characters a text stands for. A run is counted at once, however many copies it has: the first that does not fit ends it.
 fn measure(text: &[u8]) -> Expanded
     ensures { λ r. ⌜ r ≡ told (expanded (now (text .entry))) ⌝ }
 {

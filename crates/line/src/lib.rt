@@ -1,4 +1,4 @@
-// What is read out of a line: the place of a byte, numbers, bytes in hex.
+// What is read out of a line: its pieces, numbers, bytes in hex.
 ghost use mathlib.Core.Path.{_≡_};
 ghost use mathlib.Core.Bool.{true};
 ghost use mathlib.Core.List.{[]};

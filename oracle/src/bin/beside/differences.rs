@@ -358,7 +358,48 @@ fn divisor_of_quaternions() -> Outcome {
     Ok(())
 }
 
-const ENTRIES: [(&str, fn() -> Outcome); 24] = [
+fn type_of_several_texts() -> Outcome {
+    let (texts, letters, structure) = ("54595045 63 02 0002 42424242", "54595045 63 04 0001 42424242", "41424344 3f 04 0001 01020304");
+    for (types, rows, expected) in [(texts, 2, vec![]), (letters, 1, unsigned(&[&[1, 2, 3, 4]]))] {
+        let payload = format!("{types} {structure}");
+        same("how many entries the Rust has", &rows, &published_side::walk(&bytes(&payload), false).items.len())?;
+        same("how many rows there are", &rows, &library::read(&bytes(&payload), false, 16).0.rows)?;
+        both_read(&payload, expected)?;
+    }
+    Ok(())
+}
+
+fn empty_type() -> Outcome {
+    let (letter, empty, structure) = ("54595045 63 01 0001 42 000000", "54595045 63 01 0000", "41424344 3f 01 0001 07");
+    both_read(&format!("{letter} {empty} {structure}"), unsigned(&[&[7]]))?;
+    both_read(&format!("{empty} {structure}"), vec![])
+}
+
+fn two_streams_of_a_group() -> Outcome {
+    let stream = |reading| format!("5354524d 00 01 0009 4759524f 42 01 0001 {reading} 000000");
+    let payload = bytes(&[stream("01"), stream("02")].concat());
+    let map = published_side::walk(&payload, false).map.expect("an accepted reading");
+    same("the Rust's groups and their entries", &vec![1], &map.values().map(|tags| tags.len()).collect::<Vec<_>>())?;
+    let ReadBack::Is(theirs) = probe_rows(&map[&GroupId::Gyroscope][&TagId::Data].value).2 else { return Err("the Rust does not read it".into()) };
+    same("the Rust's readings", &unsigned(&[&[2]]), &theirs)?;
+    let (answer, rows) = library::read(&payload, false, 16);
+    let key = u32::from_be_bytes(*b"GYRO");
+    same(
+        "the rows and the last of them",
+        &(2, (IS, 1)),
+        &(answer.rows, {
+            let found = library::lookup(&rows, answer.rows, 1, key, 1, key);
+            (found.kind, found.value)
+        }),
+    )?;
+    for (n, reading) in [1, 2].into_iter().enumerate() {
+        let place = library::row_at(&rows, n).row.place as usize;
+        same("a reading", &Plain::Unsigned(reading), &library::element(&payload, place, library::NO_TYPE as usize, 0, 0).element.plain())?;
+    }
+    listed_among(&[], &Input::Payload(payload))
+}
+
+const ENTRIES: [(&str, fn() -> Outcome); 27] = [
     ("1, the divisor of Q", divisor_of_q),
     ("2, size against the widths of letters", size_against_widths),
     ("3, MAGN has a group and no tag, FACE has neither", streams_without_a_tag),
@@ -383,6 +424,9 @@ const ENTRIES: [(&str, fn() -> Outcome); 24] = [
     ("20, quaternions with too few bytes, and stamps of 2^63 or more", short_quaternions_and_stamps),
     ("21, q in f32", rounded_q),
     ("22, what a quaternion is divided by", divisor_of_quaternions),
+    ("23, a TYPE of several texts", type_of_several_texts),
+    ("24, an empty TYPE behind another", empty_type),
+    ("25, two streams of one group in a packet", two_streams_of_a_group),
 ];
 
 /// Every entry is as it says; each that is not is told.
