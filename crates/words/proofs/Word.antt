@@ -1,10 +1,10 @@
 -- What decoding a word comes to: no characters, a dash, and all else as bytes in hex. Assumes nothing.
 use Prim.Native.Nat.{ℕ}
-use mathlib.Core.Path.{_≡_, refl, sym, ap, _∙_}
+use mathlib.Core.Path.{_≡_, refl, sym, _∙_}
 use mathlib.Core.Bool.{true, false}
 use mathlib.Core.List.{List, [], _∷_}
 use native.Mathlib.Omega.{arith}
-use borrow.Author.Tests.{eq-eqb, ne-eqb}
+use borrow.Author.Tests.{ne-eqb}
 use lib.Dec.{eqb, leb·zero}
 use lib.ListN.{length}
 use Rattle.line.specs.Read.{decodedInto, Decodes}

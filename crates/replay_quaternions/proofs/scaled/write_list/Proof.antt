@@ -2,8 +2,8 @@
 use Prim.Native.Nat.{_-_}
 use native.Mathlib.Omega.{arith}
 use borrow.Author.Needs.{needs}
-use Rattle.replay_packets.proofs.motion.write_list.Statement.{statement}
-use Rattle.replay_packets.proofs.motion.write_list.Tie as tie
+use Rattle.replay_quaternions.proofs.scaled.write_list.Statement.{statement}
+use Rattle.replay_quaternions.proofs.scaled.write_list.Tie as tie
 
 abbrev Inv-loop : tie.InvT-loop
 Inv-loop payload rows count key row₀ row = Unit {0}

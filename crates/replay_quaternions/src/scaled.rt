@@ -1,21 +1,42 @@
-// The questions on quaternions and stamps.
-use crate::packets::row_buffer;
+// The one question: quat HEX. The answer is written, without the end of its line.
 use crate::writing::write;
 use crate::writing::write_byte;
-use crate::writing::write_decimal;
 use crate::writing::write_double;
-use line::Number;
+use line::Decoded;
 use metadata::Metadata;
 use quaternions::Quaternion;
 use quaternions::ScaledRow;
-use stamps::Stamp;
 
 const CORI: u32 = 0x434f5249;
 
 const IORI: u32 = 0x494f5249;
 
-// quat HEX
-pub(crate) fn answer_quaternions(payload: &[u8]) {
+// The name takes five bytes, with the space behind it.
+pub(crate) fn answer(question: &[u8]) {
+    if check::same(words::part(question, 0, 5), b"quat ") {
+        answer_quaternions(words::part(question, 5, question.len()));
+    } else {
+        write_unknown();
+    }
+}
+
+fn write_unknown() {
+    write(b"unknown");
+}
+
+fn answer_quaternions(hex: &[u8]) {
+    let mut payload = payload_buffer();
+    match words::unhex_word(hex, &mut payload) {
+        Decoded::Bytes(count) => write_reading(words::part(&payload, 0, count)),
+        _ => write_unknown(),
+    }
+}
+
+fn payload_buffer() -> [u8; 8192] {
+    [0u8; 8192]
+}
+
+fn write_reading(payload: &[u8]) {
     let mut rows = row_buffer();
     match metadata::parse_metadata(payload, false, &mut rows) {
         Metadata::Rows {
@@ -28,6 +49,10 @@ pub(crate) fn answer_quaternions(payload: &[u8]) {
         }
         _ => write(b"err"),
     }
+}
+
+fn row_buffer() -> [u32; 16384] {
+    [0u32; 16384]
 }
 
 // The quaternions of a group, where it has any.
@@ -69,35 +94,4 @@ fn write_quaternion(q: Quaternion) {
     write_double(b';', q.y);
     write_double(b';', q.z);
     write_byte(b']');
-}
-
-// stamp GROUPKEY HEX
-pub(crate) fn answer_stamp(group: &[u8], payload: &[u8]) {
-    let mut rows = row_buffer();
-    match metadata::parse_metadata(payload, false, &mut rows) {
-        Metadata::Rows {
-            rows: count,
-            headers: _,
-        } => write_stamp(stamps::stamp_us(payload, &rows, count, 1, key_of(group))),
-        _ => write(b"err"),
-    }
-}
-
-// The key that a word is in hex.
-fn key_of(word: &[u8]) -> u32 {
-    match line::hex_number(word) {
-        Number::Is(key) => (key % 0x1_0000_0000) as u32,
-        Number::NotOne => 0,
-    }
-}
-
-fn write_stamp(stamp: Stamp) {
-    match stamp {
-        Stamp::Is(us) => {
-            write(b"ok ");
-            write_decimal(us);
-        }
-        Stamp::Nothing => write(b"none"),
-        _ => write(b"refused"),
-    }
 }

@@ -2,8 +2,8 @@
 use Prim.Native.Nat.{_-_}
 use native.Mathlib.Omega.{arith}
 use lib.ListN.{length}
-use Rattle.replay_values.proofs.writing.write_hex_bytes.Statement.{statement}
-use Rattle.replay_values.proofs.writing.write_hex_bytes.Tie as tie
+use Rattle.replay_rows.proofs.writing.write_hex_bytes.Statement.{statement}
+use Rattle.replay_rows.proofs.writing.write_hex_bytes.Tie as tie
 
 abbrev Inv-loop : tie.InvT-loop
 Inv-loop s i₀ i = Unit {0}
