@@ -1,12 +1,12 @@
 #!/usr/bin/env python3
-"""newer_camera.py SEED COUNT: an old reader meets a newer camera (demand 3), by running our programs `take` and `replay_values`.
+"""newer_camera.py SEED COUNT: an old reader meets a newer camera (demand 3), by running our programs `take`, `replay_rows` and `replay_values`.
 
 Makes COUNT payloads with groups named by containers and puts new items in front of items that the walk reaches, at any depth. Each payload is read
 three times: as it was, with the new items, and with other payload bytes in the new items. The rows that `./gpmf take` lists must be, one by one and
 in order: every old row with its group, key, type, size, repeat and depth, its bytes at its new place; and one for each new item with a payload, in the
 group of its level; and the same rows again with the other bytes. The headers must be more by one for each new outermost item and two for each
-below. Where new keys are unlike all old ones, `./gpmf replay_values` must also give every old entry as it was, with its value. Other commands
-than ./gpmf are given by TAKE and REPLAY_VALUES in the environment. Exit 1 at a difference, with the first three."""
+below. Where new keys are unlike all old ones, `./gpmf replay_rows` and `./gpmf replay_values` must also give every old item as it was, with its value. Other
+commands than ./gpmf are given by TAKE, REPLAY_ROWS and REPLAY_VALUES in the environment. Exit 1 at a difference, with the first three."""
 import os
 import random
 import subprocess
@@ -167,13 +167,20 @@ def listings(meetings):
     return [packet.splitlines()[1:] for packet in printed[: printed.rindex("packets ")].split("packet ")[1:]]
 
 
-def entries(payloads):
-    """What `replay_values` answers of each payload: the entries of its map, with their values; as many at once as it takes."""
+def answers(question, payloads):
+    """What the program of a question answers of each payload, word by word; as many at once as it takes."""
     said = []
     for start in range(0, len(payloads), AT_ONCE):
-        asked = "".join(f"walk 0 {payload.hex() or '-'}\n" for payload in payloads[start : start + AT_ONCE])
-        said += subprocess.run(command("replay_values"), input=asked.encode(), stdout=subprocess.PIPE, check=True).stdout.decode().splitlines()
-    return [[word for word in line.split(" ")[2:] if not word.split(",")[2].startswith(NEW.hex())] for line in said]
+        asked = "".join(f"{question} 0 {payload.hex() or '-'}\n" for payload in payloads[start : start + AT_ONCE])
+        said += subprocess.run(command(f"replay_{question}"), input=asked.encode(), stdout=subprocess.PIPE, check=True).stdout.decode().splitlines()
+    return [line.split(" ") for line in said]
+
+
+def entries(payloads):
+    """The entries of each payload's map, with their values: the items of its rows that are kept, but for the new ones."""
+    both = zip(answers("rows", payloads), answers("values", payloads), strict=True)
+    items = [zip(rows[2:], values[1:], strict=True) for rows, values in both]
+    return [[(row, value) for row, value in words if row.endswith(",1") and not row.split(",")[2].startswith(NEW.hex())] for words in items]
 
 
 def main():

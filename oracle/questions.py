@@ -554,6 +554,27 @@ def no_walks(_):
     yield from ("walk 0", "walk 2 -", "walk 00 -", "walk 1 ", "walk -", "walk 0 0", "walk 0 - -")
 
 
+# The kinds of payloads that walks are asked of.
+WALKS = {
+    "types": every_type,
+    "numbers": special_numbers,
+    "quaternions": quaternions,
+    "dates": dates,
+    "texts": texts,
+    "structures": structures,
+    "samples": lambda draw, times: description_samples(draw),
+    "walk": walks,
+    "no-walk": lambda draw, times: no_walks(draw),
+}
+
+
+def asked_as(question):
+    """The same payloads under another question; a kind's seed is the name behind the colon."""
+    def asked(made):
+        return lambda draw, times: (question + line.removeprefix("walk") for line in made(draw, times))
+    return {f"{question}:{kind}": asked(made) for kind, made in WALKS.items()}
+
+
 # The programs, and the kinds of questions that each answers.
 LISTS = {
     "replay": {
@@ -565,19 +586,14 @@ LISTS = {
         "last": last_items,
         "none": lambda draw, times: no_questions(draw),
     },
-    "replay_values": {
-        "types": every_type,
-        "numbers": special_numbers,
-        "quaternions": quaternions,
-        "dates": dates,
-        "texts": texts,
-        "structures": structures,
-        "samples": lambda draw, times: description_samples(draw),
-        "walk": walks,
-        "no-walk": lambda draw, times: no_walks(draw),
-    },
-    "replay_axes": {"matrix": matrices, "back": backs, "oriented": orientations},
-    "replay_packets": {"cuts": cuts, "packets": packets_read, "quat": quaternions_scaled, "stamp": stamps},
+    "replay_rows": asked_as("rows"),
+    "replay_kinds": asked_as("kinds"),
+    "replay_values": asked_as("values"),
+    "replay_axes": {"matrix": matrices, "back": backs},
+    "replay_oriented": {"oriented": orientations},
+    "replay_packets": {"cuts": cuts, "packets": packets_read},
+    "replay_quaternions": {"quat": quaternions_scaled},
+    "replay_stamps": {"stamp": stamps},
     "replay_averages": {"average": averages},
 }
 KINDS = {kind: made for kinds in LISTS.values() for kind, made in kinds.items()}
@@ -593,7 +609,7 @@ def main():
         ask.error(f"no kind {unknown}")
     said = [f"seed {asked.seed}"]
     for kind in [kind for name in asked.kinds for kind in LISTS.get(name, [name])]:
-        made = KINDS[kind](random.Random(f"{asked.seed} {kind}"), asked.times)
+        made = KINDS[kind](random.Random(f"{asked.seed} {kind.rpartition(':')[2]}"), asked.times)
         questions = list(dict.fromkeys(made))  # each once
         sys.stdout.buffer.write("".join(q + "\n" for q in questions).encode("utf-8"))
         said.append(f"{kind} {len(questions)}")

@@ -4,7 +4,7 @@
 set -eu
 cd "$(dirname "$0")"
 [ -x target/release/gpmf-oracle ] || { echo "no oracle: build it first, build.sh DOCS_SRC" >&2; exit 2; }
-for program in replay replay_values replay_axes replay_packets replay_averages; do
+for program in replay replay_rows replay_kinds replay_values replay_axes replay_oriented replay_packets replay_quaternions replay_stamps replay_averages; do
     ./questions.py "$program" > "../crates/$program/stdin"
     target/release/gpmf-oracle < "../crates/$program/stdin" > "../crates/$program/stdout"
     wc -c "../crates/$program/stdin" "../crates/$program/stdout"

@@ -3,7 +3,9 @@
 
 use published::gopro::{GoPro, klv::{KLV, probe}};
 use published::groups::group_number;
+use published::plain::{Plain, ReadBack};
 use published::tags_impl::*;
+use published::util::{begin_list, end_list};
 use published::{InputOptions, SampleInfo};
 use std::io::{BufRead, Cursor, Write};
 
@@ -15,6 +17,9 @@ fn answer(line: &str) -> Option<String> {
         "tag" => tag(asked),
         "group" => group(asked),
         "walk" => walk(asked),
+        "rows" => rows(asked),
+        "kinds" => kinds(asked),
+        "values" => values(asked),
         "last" => last(asked),
         "expand" => expand(asked),
         "date" => date(asked),
@@ -109,11 +114,14 @@ fn group(asked: &[&str]) -> Option<String> {
 
 // ---------- the walk ----------
 
+fn show_group(group: &GroupId) -> String {
+    if *group == GroupId::Default { "-".into() } else { hex(&group_number(group).1) }
+}
 /// An entry for each group and tag, in the order of group key, tag number and key.
 fn show_map(map: &GroupedTagMap) -> String {
     let mut entries = Vec::new();
     for (g, tags) in map {
-        let group = if *g == GroupId::Default { "-".into() } else { hex(&group_number(g).1) };
+        let group = show_group(g);
         for (id, d) in tags {
             let Some(native) = d.native_id else { continue }; // put in by process_map or process_samples
             assert!(&d.group == g && &d.id == id);
@@ -129,16 +137,65 @@ fn parsed(payload: &[u8], forced: bool) -> std::io::Result<GroupedTagMap> {
     GoPro::parse_metadata(payload, GroupId::Default, forced, &InputOptions::default())
 }
 
-/// walk FORCED HEX
-fn walk(asked: &[&str]) -> Option<String> {
+/// What a walk gives: the map, the headers that were read, and all that was put in, in its order.
+struct Walked { map: GroupedTagMap, headers: u64, items: Vec<TagDescription> }
+/// FORCED HEX: the walk of these, where they are such words; none where the Rust refuses it.
+fn walked(asked: &[&str]) -> Option<Option<Walked>> {
     let (forced, payload) = match asked { ["0", p] => (false, bytes(p)?), ["1", p] => (true, bytes(p)?), _ => return None };
     let before = byteorder::u16_reads();
+    begin_list();
     let map = parsed(&payload, forced);
-    let headers = byteorder::u16_reads() - before;
-    Some(match map {
-        Ok(map) => format!("ok h={headers}{}", show_map(&map)),
-        Err(_) => "err".into(),
-    })
+    let (headers, items) = (byteorder::u16_reads() - before, end_list());
+    Some(map.ok().map(|map| Walked { map, headers, items }))
+}
+fn ok_or_err(answer: Option<String>) -> Option<String> { Some(answer.unwrap_or("err".into())) }
+
+/// walk FORCED HEX
+fn walk(asked: &[&str]) -> Option<String> {
+    ok_or_err(walked(asked)?.map(|w| format!("ok h={}{}", w.headers, show_map(&w.map))))
+}
+
+/// rows FORCED HEX: each item that is put in, and whether it is the one that the map has of its group and tag (of several that are alike, the last)
+fn rows(asked: &[&str]) -> Option<String> {
+    ok_or_err(walked(asked)?.map(|w| {
+        let alike = |a: &TagDescription, b: &TagDescription| a.group == b.group && a.id == b.id && a.native_id == b.native_id && probe_value(&a.value) == probe_value(&b.value);
+        let shown = w.items.iter().enumerate().map(|(at, item)| {
+            let has = w.map.get(&item.group).and_then(|tags| tags.get(&item.id)).is_some_and(|kept| alike(kept, item));
+            let kept = has && !w.items[at + 1..].iter().any(|later| alike(later, item));
+            let native = item.native_id.expect("a key");
+            format!(" {},{},{native:08x},{},{}", show_group(&item.group), probe_tag_number(&item.id), hex(probe_value(&item.value).1), kept as u8)
+        });
+        format!("ok h={}{}", w.headers, shown.collect::<String>())
+    }))
+}
+
+/// kinds FORCED HEX: the name of the kind of each item's value
+fn kinds(asked: &[&str]) -> Option<String> {
+    ok_or_err(walked(asked)?.map(|w| format!("ok{}", w.items.iter().map(|item| format!(" {}", probe_value(&item.value).0)).collect::<String>())))
+}
+
+/// values FORCED HEX: the rows of each item's value; the one row of a structure is a list in the Rust
+fn values(asked: &[&str]) -> Option<String> {
+    ok_or_err(walked(asked)?.map(|w| {
+        let shown = w.items.iter().map(|item| match probe_rows(&item.value) {
+            ("Vec_Scalar", _, ReadBack::Is(rows)) => show_rows(&[rows.concat()]),
+            (_, _, ReadBack::Is(rows)) => show_rows(&rows),
+            _ => " err".into(),
+        });
+        format!("ok{}", shown.collect::<String>())
+    }))
+}
+fn show_rows(rows: &[Vec<Plain>]) -> String {
+    let row = |cells: &Vec<Plain>| format!("/{}", cells.iter().map(show_plain).collect::<String>());
+    format!(" {}{}", rows.len(), rows.iter().map(row).collect::<String>())
+}
+fn show_plain(number: &Plain) -> String {
+    match number {
+        Plain::Signed(n) => format!("i{n}"),
+        Plain::Unsigned(n) => format!("u{n}"),
+        Plain::Single(bits) => format!("f{bits:08x}"),
+        Plain::Double(bits) => format!("d{bits:016x}"),
+    }
 }
 
 /// last HEX

@@ -1,5 +1,4 @@
 // The questions, a function each: the answer is written, without the end of its line.
-use crate::writing::first;
 use crate::writing::write;
 use crate::writing::write_byte;
 use crate::writing::write_decimal;
@@ -18,8 +17,8 @@ use line::Number;
 pub(crate) fn answer(question: &[u8]) {
     let words = line::pieces(question, b' ');
     let mut bytes = byte_buffer();
-    match bytes_of(word(question, if words == 3 { 2 } else { 1 }), &mut bytes) {
-        Decoded::Bytes(count) => answer_of(words, question, first(&bytes, count)),
+    match words::unhex_word(word(question, if words == 3 { 2 } else { 1 }), &mut bytes) {
+        Decoded::Bytes(count) => answer_of(words, question, words::part(&bytes, 0, count)),
         _ => write_unknown(),
     }
 }
@@ -30,17 +29,6 @@ fn word(question: &[u8], index: usize) -> &[u8] {
 
 fn byte_buffer() -> [u8; 8192] {
     [0u8; 8192]
-}
-
-// The bytes that a word is in hex; `-` is none.
-fn bytes_of(word: &[u8], bytes: &mut [u8]) -> Decoded {
-    if word.len() == 0 {
-        return Decoded::NotHex;
-    }
-    if check::same(word, b"-") {
-        return Decoded::Bytes(0);
-    }
-    line::unhex(word, bytes)
 }
 
 fn write_unknown() {
@@ -161,5 +149,5 @@ fn answer_expand(type_text: &[u8]) {
 
 fn write_characters(written: [u8; 256], length: usize) {
     write(b"ok t");
-    write_hex_bytes(first(&written, length));
+    write_hex_bytes(words::part(&written, 0, length));
 }

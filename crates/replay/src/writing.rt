@@ -35,11 +35,3 @@ pub(crate) fn write_hex_bytes(s: &[u8]) {
 fn write_hex_byte(b: u8) {
     write_hex(b as u64, 2);
 }
-
-// The first bytes of some, or all where there are not so many.
-pub(crate) fn first(s: &[u8], count: usize) -> &[u8] {
-    if s.len() < count {
-        return s;
-    }
-    &s[0..count]
-}

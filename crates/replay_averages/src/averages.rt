@@ -90,15 +90,7 @@ fn first_flags(flags: &[u8], words: usize) -> &[u8] {
     if words == 0 {
         return &flags[..0];
     }
-    first(flags, words - 1)
-}
-
-// The first bytes of some, or all where there are not so many.
-fn first(s: &[u8], count: usize) -> &[u8] {
-    if s.len() < count {
-        return s;
-    }
-    &s[0..count]
+    words::part(flags, 0, words - 1)
 }
 
 // A part of what is said of the packet at an index.
@@ -159,7 +151,7 @@ fn duration_of(word: &[u8]) -> f64 {
     let Decoded::Bytes(n) = line::unhex(word, &mut bytes) else {
         return 0.0;
     };
-    match elements::element_at(first(&bytes, n), 0, b'd') {
+    match elements::element_at(words::part(&bytes, 0, n), 0, b'd') {
         Element::Double(x) => x,
         _ => 0.0,
     }

@@ -1,5 +1,4 @@
 // The questions, a function each: the answer is written, without the end of its line.
-use crate::writing::first;
 use crate::writing::write;
 use crate::writing::write_byte;
 use crate::writing::write_single;
@@ -8,20 +7,12 @@ use axes::Orientation;
 use axes::Orientations;
 use elements::Element;
 use line::Decoded;
-use metadata::Metadata;
-use orientation::Oriented;
-
-const GYRO: u32 = 0x4759524f;
-
-const ACCL: u32 = 0x4143434c;
-
-const MAGN: u32 = 0x4d41474e;
 
 // The first word behind the name is in hex.
 pub(crate) fn answer(question: &[u8]) {
     let mut bytes = byte_buffer();
-    match bytes_of(word(question, 1), &mut bytes) {
-        Decoded::Bytes(count) => answer_of(question, first(&bytes, count)),
+    match words::unhex_word(word(question, 1), &mut bytes) {
+        Decoded::Bytes(count) => answer_of(question, words::part(&bytes, 0, count)),
         _ => write_unknown(),
     }
 }
@@ -34,17 +25,6 @@ fn byte_buffer() -> [u8; 8192] {
     [0u8; 8192]
 }
 
-// The bytes that a word is in hex; `-` is none.
-fn bytes_of(word: &[u8], bytes: &mut [u8]) -> Decoded {
-    if word.len() == 0 {
-        return Decoded::NotHex;
-    }
-    if check::same(word, b"-") {
-        return Decoded::Bytes(0);
-    }
-    line::unhex(word, bytes)
-}
-
 fn write_unknown() {
     write(b"unknown");
 }
@@ -55,8 +35,6 @@ fn answer_of(question: &[u8], bytes: &[u8]) {
         answer_matrix(bytes, word(question, 2));
     } else if check::same(name, b"back") {
         answer_back(bytes);
-    } else if check::same(name, b"oriented") {
-        answer_oriented(bytes);
     } else {
         write_unknown();
     }
@@ -65,8 +43,11 @@ fn answer_of(question: &[u8], bytes: &[u8]) {
 // matrix ORIN ORIO
 fn answer_matrix(orin: &[u8], hex: &[u8]) {
     let mut orio = text_buffer();
-    match bytes_of(hex, &mut orio) {
-        Decoded::Bytes(count) => write_matrix(axes::orientations_of(orin, first(&orio, count))),
+    match words::unhex_word(hex, &mut orio) {
+        Decoded::Bytes(count) => write_matrix(axes::orientations_of(
+            orin,
+            words::part(&orio, 0, count),
+        )),
         _ => write_unknown(),
     }
 }
@@ -106,8 +87,9 @@ fn answer_back(bytes: &[u8]) {
 fn write_back(orientation: Orientation) {
     match orientation {
         Orientation::Is(axes) => {
+            let letters = [axes.first, axes.second, axes.third];
             write(b"ok ");
-            write_letters(axes);
+            write(&letters);
         }
         _ => write(b"panic"),
     }
@@ -141,61 +123,4 @@ fn first_numbers(s: &[f32], count: usize) -> &[f32] {
         return s;
     }
     &s[0..count]
-}
-
-fn write_letters(axes: Axes) {
-    let letters = [axes.first, axes.second, axes.third];
-    write(&letters);
-}
-
-// oriented HEX
-fn answer_oriented(payload: &[u8]) {
-    let mut rows = row_buffer();
-    match metadata::parse_metadata(payload, false, &mut rows) {
-        Metadata::Rows {
-            rows: count,
-            headers: _,
-        } => write_oriented(payload, &rows, count),
-        _ => write(b"err"),
-    }
-}
-
-fn row_buffer() -> [u32; 16384] {
-    [0u32; 16384]
-}
-
-// Where the Rust panics, some group is refused.
-fn write_oriented(payload: &[u8], rows: &[u32], count: usize) {
-    let gyroscope = orientation::orientation_of_group(payload, rows, count, 1, GYRO);
-    let accelerometer = orientation::orientation_of_group(payload, rows, count, 1, ACCL);
-    let magnetometer = orientation::orientation_of_group(payload, rows, count, 1, MAGN);
-    if is_refused(gyroscope) || is_refused(accelerometer) || is_refused(magnetometer) {
-        write(b"panic");
-    } else {
-        write_groups(gyroscope, accelerometer, magnetometer);
-    }
-}
-
-fn write_groups(gyroscope: Oriented, accelerometer: Oriented, magnetometer: Oriented) {
-    write(b"ok");
-    write_axes(gyroscope, b" GYRO=");
-    write_axes(accelerometer, b" ACCL=");
-    write_axes(magnetometer, b" MAGN=");
-}
-
-fn is_refused(oriented: Oriented) -> bool {
-    match oriented {
-        Oriented::Refused {
-            number: _,
-            place: _,
-        } => true,
-        _ => false,
-    }
-}
-
-fn write_axes(oriented: Oriented, name: &[u8]) {
-    if let Oriented::Is(axes) = oriented {
-        write(name);
-        write_letters(axes);
-    }
 }

@@ -19,11 +19,3 @@ pub(crate) fn write_single(mark: u8, x: f32) {
     write_byte(b'f');
     write_hex(float_bits::single_bits(x) as u64, 8);
 }
-
-// The first bytes of some, or all where there are not so many.
-pub(crate) fn first(s: &[u8], count: usize) -> &[u8] {
-    if s.len() < count {
-        return s;
-    }
-    &s[0..count]
-}

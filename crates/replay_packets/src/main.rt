@@ -1,6 +1,5 @@
-// Answers what the Rust oracle was asked of packets: cuts, readings, quaternions and stamps (oracle/README.md has the protocol).
+// Answers what the Rust oracle was asked of raw files: where their packets lie, and how each is read (oracle/README.md has the protocol).
 // Standard input has at most 1,048,576 bytes; what stands behind them is not read.
-mod motion;
 mod packets;
 mod questions;
 mod writing;
@@ -18,7 +17,7 @@ fn input_buffer() -> [u8; 1048576] {
 fn answer_all(input: &[u8]) {
     let mut from: usize = 0;
     while from < input.len() {
-        let question = line::piece(&input[from..], b'\n', 0);
+        let question = words::line_from(input, from);
         answer_line(question);
         from += question.len() + 1;
     }

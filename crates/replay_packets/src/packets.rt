@@ -1,4 +1,4 @@
-// The questions on raw files: cuts and packets.
+// The packets of a raw file: where each lies, or how it is read.
 use crate::writing::write;
 use crate::writing::write_byte;
 use crate::writing::write_decimal;
@@ -15,7 +15,7 @@ pub(crate) fn answer_file(file: &[u8], cuts: bool) {
     write_packets(file, cuts, &mut rows);
 }
 
-pub(crate) fn row_buffer() -> [u32; 16384] {
+fn row_buffer() -> [u32; 16384] {
     [0u32; 16384]
 }
 

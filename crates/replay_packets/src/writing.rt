@@ -17,23 +17,3 @@ pub(crate) fn write_number(n: u64) {
     write_byte(b' ');
     write_decimal(n);
 }
-
-// A number in hex, in so many digits or more.
-pub(crate) fn write_hex(n: u64, count: usize) {
-    io::print_hex(libc::STDOUT_FILENO, n, count);
-}
-
-// An f64 by its bits, behind a mark.
-pub(crate) fn write_double(mark: u8, x: f64) {
-    write_byte(mark);
-    write_byte(b'd');
-    write_hex(float_bits::double_bits(x), 16);
-}
-
-// The first bytes of some, or all where there are not so many.
-pub(crate) fn first(s: &[u8], count: usize) -> &[u8] {
-    if s.len() < count {
-        return s;
-    }
-    &s[0..count]
-}

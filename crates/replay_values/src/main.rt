@@ -1,6 +1,5 @@
-// Answers what the Rust oracle was asked of payloads: the entries of the map that it makes, with their values (oracle/README.md has the protocol).
+// Answers what the Rust oracle was asked of the values in payloads, item by item (oracle/README.md has the protocol).
 // Standard input has at most 2,097,152 bytes; what stands behind them is not read.
-mod entries;
 mod questions;
 mod shown;
 mod writing;
@@ -18,7 +17,7 @@ fn input_buffer() -> [u8; 2097152] {
 fn answer_all(input: &[u8]) {
     let mut from: usize = 0;
     while from < input.len() {
-        let question = line::piece(&input[from..], b'\n', 0);
+        let question = words::line_from(input, from);
         answer_line(question);
         from += question.len() + 1;
     }

@@ -1,17 +1,16 @@
-// The one question: walk FORCED HEX. The answer is written, without the end of its line.
-use crate::entries;
-use crate::writing::first;
-use crate::writing::part;
+// The one question: values FORCED HEX. The answer is written, without the end of its line.
+use crate::shown;
 use crate::writing::write;
-use crate::writing::write_decimal;
 use line::Decoded;
 use metadata::Metadata;
 
-// The name and the forcing take seven bytes.
+// The name and the forcing take nine bytes.
 pub(crate) fn answer(question: &[u8]) {
     let mut payload = payload_buffer();
-    match bytes_of(part(question, 7, question.len()), &mut payload) {
-        Decoded::Bytes(count) => answer_walk(first(question, 7), first(&payload, count)),
+    match words::unhex_word(words::part(question, 9, question.len()), &mut payload) {
+        Decoded::Bytes(count) => {
+            answer_of(words::part(question, 0, 9), words::part(&payload, 0, count));
+        }
         _ => write_unknown(),
     }
 }
@@ -20,25 +19,14 @@ fn payload_buffer() -> [u8; 8192] {
     [0u8; 8192]
 }
 
-// The bytes that a word is in hex; `-` is none.
-fn bytes_of(word: &[u8], bytes: &mut [u8]) -> Decoded {
-    if word.len() == 0 {
-        return Decoded::NotHex;
-    }
-    if check::same(word, b"-") {
-        return Decoded::Bytes(0);
-    }
-    line::unhex(word, bytes)
-}
-
 fn write_unknown() {
     write(b"unknown");
 }
 
-fn answer_walk(asked: &[u8], payload: &[u8]) {
-    if check::same(asked, b"walk 0 ") {
+fn answer_of(asked: &[u8], payload: &[u8]) {
+    if check::same(asked, b"values 0 ") {
         write_reading(payload, false);
-    } else if check::same(asked, b"walk 1 ") {
+    } else if check::same(asked, b"values 1 ") {
         write_reading(payload, true);
     } else {
         write_unknown();
@@ -50,24 +38,15 @@ fn write_reading(payload: &[u8], forced: bool) {
     match metadata::parse_metadata(payload, forced, &mut rows) {
         Metadata::Rows {
             rows: count,
-            headers,
+            headers: _,
         } => {
-            write_headers(headers);
-            entries::write_entries(payload, &rows, count);
+            write(b"ok");
+            shown::write_items(payload, &rows, count);
         }
-        _ => write_err(),
+        _ => write(b"err"),
     }
-}
-
-fn write_err() {
-    write(b"err");
 }
 
 fn row_buffer() -> [u32; 16384] {
     [0u32; 16384]
-}
-
-fn write_headers(headers: usize) {
-    write(b"ok h=");
-    write_decimal(headers as u64);
 }

@@ -37,6 +37,12 @@ use Rattle.line.proofs.hex_number.Kinds as hex-number-kinds
 use Rattle.line.proofs.hex_number.Reads as hex-number-reads
 use Rattle.line.proofs.unhex.Kinds as unhex-kinds
 use Rattle.line.proofs.unhex.Reads as unhex-reads
+use Rattle.words.proofs.part.Kinds as part-kinds
+use Rattle.words.proofs.part.Reads as part-reads
+use Rattle.words.proofs.line_from.Kinds as line-from-kinds
+use Rattle.words.proofs.line_from.Reads as line-from-reads
+use Rattle.words.proofs.unhex_word.Kinds as unhex-word-kinds
+use Rattle.words.proofs.unhex_word.Reads as unhex-word-reads
 use Rattle.answers.proofs.of_expanded.Kinds as of-expanded-kinds
 use Rattle.answers.proofs.of_expanded.Reads as of-expanded-reads
 use Rattle.answers.proofs.of_date.Kinds as of-date-kinds
@@ -520,6 +526,17 @@ unhex κs a x y s t p q = (p .is ∙ sym (q .is), p .leaves ∙ sym (q .leaves))
 pub piece : (κs : Lfts 1) (a : Dens κs piece-kinds.ps) (x y : resT piece-kinds.r κs .Denot) (s t : AtExit (endedOf 1 piece-kinds.ps piece-kinds.r) κs)
     → piece-reads.Learnt κs a x s → piece-reads.Learnt κs a y t → now x ≡ now y
 piece κs a x y s t p q = p ∙ sym q
+
+pub text-part : (κs : Lfts 1) (a : Dens κs part-kinds.ps) (x y : resT part-kinds.r κs .Denot) (s t : AtExit (endedOf 1 part-kinds.ps part-kinds.r) κs)
+    → part-reads.Learnt κs a x s → part-reads.Learnt κs a y t → now x ≡ now y
+text-part κs a x y s t p q = p ∙ sym q
+
+pub line-from : (κs : Lfts 1) (a : Dens κs line-from-kinds.ps) (x y : resT line-from-kinds.r κs .Denot) (s t : AtExit (endedOf 1 line-from-kinds.ps line-from-kinds.r) κs)
+    → line-from-reads.Learnt κs a x s → line-from-reads.Learnt κs a y t → now x ≡ now y
+line-from κs a x y s t p q = p ∙ sym q
+
+pub unhex-word : OneAnswer 2 unhex-word-kinds.ps unhex-word-kinds.r unhex-word-reads.Learnt (λ κs s. now (s .1 .0))
+unhex-word κs a x y s t p q = (p .is ∙ sym (q .is), p .leaves ∙ sym (q .leaves))
 
 pub put-key : OneAnswer 1 put-key-kinds.ps put-key-kinds.r put-key-reads.Learnt (λ κs s. now (s .0))
 put-key κs a x y s t p q = (p .is ∙ sym (q .is), p .leaves ∙ sym (q .leaves))

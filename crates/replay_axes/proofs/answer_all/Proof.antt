@@ -1,7 +1,6 @@
 -- `answer_all` is safe and ends: each turn takes a line. Assumes nothing.
 use Prim.Native.Nat.{_-_}
 use native.Mathlib.Omega.{arith}
-use borrow.Author.Needs.{needs}
 use lib.ListN.{length}
 use Rattle.replay_axes.proofs.answer_all.Statement.{statement}
 use Rattle.replay_axes.proofs.answer_all.Tie as tie
@@ -15,17 +14,8 @@ abbrev μ-loop : tie.MeasureT-loop
 loop-holds : tie.Need-loop-holds Inv-loop μ-loop
 loop-holds c = tt
 
-sub-piece : tie.Need-sub-piece Inv-loop μ-loop
-sub-piece c = omega arith
-
-part-piece-start : tie.Need-part-piece-start Inv-loop μ-loop
-part-piece-start c = search needs
-
-part-piece-end : tie.Need-part-piece-end Inv-loop μ-loop
-part-piece-end c = search needs
-
-piece-requires : tie.Need-piece-requires Inv-loop μ-loop
-piece-requires c κs = tt
+line-from-requires : tie.Need-line-from-requires Inv-loop μ-loop
+line-from-requires c κs = tt
 
 answer-line-requires : tie.Need-answer-line-requires Inv-loop μ-loop
 answer-line-requires c κs = tt
@@ -52,10 +42,7 @@ answer-all-spec =
     Inv-loop
     μ-loop
     loop-holds
-    sub-piece
-    part-piece-start
-    part-piece-end
-    piece-requires
+    line-from-requires
     answer-line-requires
     add-from
     add-from-2

@@ -5,10 +5,10 @@ use Rattle.replay_values.proofs.shown.write_columns.Statement.{statemen
 use Rattle.replay_values.proofs.shown.write_columns.Tie as tie
 
 abbrev Inv-loop : tie.InvT-loop
-Inv-loop payload place type-place row is-text columns column₀ column = Unit {0}
+Inv-loop payload place type-place row columns column₀ column = Unit {0}
 
 abbrev μ-loop : tie.MeasureT-loop
-μ-loop payload place type-place row is-text columns column₀ column = columns - column
+μ-loop payload place type-place row columns column₀ column = columns - column
 
 columns-of-requires : tie.Need-columns-of-requires Inv-loop μ-loop
 columns-of-requires c κs = tt
@@ -19,8 +19,8 @@ loop-holds c = tt
 element-requires : tie.Need-element-requires Inv-loop μ-loop
 element-requires c κs = tt
 
-write-column-requires : tie.Need-write-column-requires Inv-loop μ-loop
-write-column-requires c κs = tt
+write-element-requires : tie.Need-write-element-requires Inv-loop μ-loop
+write-element-requires c κs = tt
 
 add-column : tie.Need-add-column Inv-loop μ-loop
 add-column c = omega arith
@@ -43,7 +43,7 @@ write-columns-spec =
     columns-of-requires
     loop-holds
     element-requires
-    write-column-requires
+    write-element-requires
     add-column
     loop-less
     loop-again

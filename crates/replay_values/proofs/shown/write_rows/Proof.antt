@@ -5,19 +5,19 @@ use Rattle.replay_values.proofs.shown.write_rows.Statement.{statement}
 use Rattle.replay_values.proofs.shown.write_rows.Tie as tie
 
 abbrev Inv-loop : tie.InvT-loop
-Inv-loop payload place type-place form rows row₀ row = Unit {0}
+Inv-loop payload place type-place rows row₀ row = Unit {0}
 
 abbrev μ-loop : tie.MeasureT-loop
-μ-loop payload place type-place form rows row₀ row = rows - row
+μ-loop payload place type-place rows row₀ row = rows - row
 
 loop-holds : tie.Need-loop-holds Inv-loop μ-loop
 loop-holds c = tt
 
-write-between-requires : tie.Need-write-between-requires Inv-loop μ-loop
-write-between-requires c κs = tt
+write-byte-requires : tie.Need-write-byte-requires Inv-loop μ-loop
+write-byte-requires c κs = tt
 
-write-row-requires : tie.Need-write-row-requires Inv-loop μ-loop
-write-row-requires c κs = tt
+write-columns-requires : tie.Need-write-columns-requires Inv-loop μ-loop
+write-columns-requires c κs = tt
 
 add-row : tie.Need-add-row Inv-loop μ-loop
 add-row c = omega arith
@@ -38,8 +38,8 @@ write-rows-spec =
     Inv-loop
     μ-loop
     loop-holds
-    write-between-requires
-    write-row-requires
+    write-byte-requires
+    write-columns-requires
     add-row
     loop-less
     loop-again
