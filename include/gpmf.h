@@ -428,7 +428,7 @@ gpmf_whole_answer gpmf_parse_utcdate(const uint8_t *text, size_t text_len);
 /* The item of a group and tag (with GPMF_TAG_OTHER, key); GPMF_NOTHING where there is no such row. Refused with 2 or 12 where the row's place holds no such item. */
 gpmf_item_answer gpmf_tagged_item(const uint8_t *s, size_t s_len, const uint32_t *rows, size_t rows_len, size_t count, uint32_t group_kind, uint32_t group_key, uint32_t tag, uint32_t key);
 
-/* Whether the value under a header is one number of a letter. */
+/* Whether a header's type, size and repeat are those of one number of a letter. Its key is not looked at: `s` under CORI or IORI is quaternions all the same. */
 bool gpmf_is_one_number(gpmf_klv klv, uint8_t letter);
 
 /* The stamp of a group, in microseconds of the camera's clock: its STMP, if that is one J number or a date (whose milliseconds are taken as they are), else

@@ -1137,7 +1137,7 @@ def is_type_text(item: Union[Item, Row]) -> bool:
 
 
 def is_one_number(item: Union[Item, Row], letter: str) -> bool:
-    """Whether the value under a header is one number of a letter."""
+    """Whether a header's type, size and repeat are those of one number of a letter. Its key is not looked at: `s` under CORI or IORI is quaternions all the same."""
     return bool(_C.gpmf_is_one_number(_klv(item), _letter(letter)))
 
 

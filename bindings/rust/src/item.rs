@@ -79,7 +79,7 @@ impl Klv {
         unsafe { sys::gpmf_is_type_text(self.to_sys()) }
     }
 
-    /// Whether the value is one number of a letter.
+    /// Whether type, size and repeat are those of one number of a letter. The key is not looked at: `s` under CORI or IORI is quaternions all the same.
     ///
     /// ```
     /// let scale = gpmf::Klv { key: *b"SCAL", data_type: b's', size: 2, repeat: 1 };

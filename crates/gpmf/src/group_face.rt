@@ -31,7 +31,7 @@ pub extern "C" fn gpmf_tagged_item(
     answers::of_tagged(tagged::tagged_item(s, rows, count, group_kind, group_key, tag, key))
 }
 
-// Whether a value is one number of a letter.
+// Whether a header is that of one number of a letter, but for its key.
 #[no_mangle]
 pub extern "C" fn gpmf_is_one_number(klv: KLV, letter: u8) -> bool
     ensures { λ r. ⌜ r ≡ oneNumber klv letter ⌝ }

@@ -39,6 +39,7 @@ itemOf s rows (row.Refused number place) = Refused number place
 unfoldable pub taggedOf : List ℕ → List ℕ → ℕ → ℕ → ℕ → ℕ → ℕ → Tagged
 taggedOf s rows count groupKind groupKey tag key = cond (ltb mostBytes (length s)) (Refused refusals.overLimit 0) (itemOf s rows (lookupOf groupKind groupKey tag key rows count))
 
--- ONE NUMBER of a letter: "With n = size / width rounded down: repeat 1 and n 1 is single" (document 01, Values)
+-- ONE NUMBER of a letter: "With n = size / width rounded down: repeat 1 and n 1 is single" (document 01, Values); by type, size and repeat alone, so that
+-- `s` under CORI or IORI, which is quaternions, may be one too
 unfoldable pub oneNumber : KLV → ℕ → Bool
 oneNumber h letter = eqb (h .«data_type») letter && (eqb (h .repeat) 1 && eqb (h .size / widthOf letter) 1)

@@ -59,7 +59,7 @@ pub fn tagged_item(
     }
 }
 
-// Whether the value under a header is one number of a letter.
+// Whether a header's type, size and repeat are those of one number of a letter; its key, by which `s` may be quaternions, is not looked at.
 pub fn is_one_number(klv: KLV, letter: u8) -> bool
     ensures { λ r. ⌜ r ≡ oneNumber klv letter ⌝ }
 {
