@@ -1,22 +1,19 @@
 -- The answers of rows of letters, and of a TYPE text written out. Assumes nothing.
 use Prim.Native.Nat.{ℕ, _+_, _*_, _<_, _≤_, _^_}
 use mathlib.Core.Path.{_≡_, refl, sym, ap, _∙_}
-use mathlib.Core.Bool.{Bool, true, false, cond}
-use mathlib.Core.List.{List, [], _∷_, _++_}
+use mathlib.Core.Bool.{true, false, cond}
+use mathlib.Core.List.{List, [], _∷_}
 use native.Mathlib.Nat.{mul-le-mul}
 use native.Mathlib.Omega.{arith}
-use borrow.Author.Tests.{le-leb, lt-leb, leb-true, lt-ltb, le-ltb}
+use borrow.Author.Tests.{le-leb, lt-leb, lt-ltb, le-ltb}
 use lib.Dec.{leb}
-use lib.ListN.{length, take, drop, length-append}
-use lib.Seq.{take-append-seam}
+use lib.ListN.{length}
 use Rattle.klv.specs.declared.KLV.{KLV}
 use Rattle.elements.specs.declared.Element.{Element}
 use Rattle.elements.specs.Types.{widthOf}
 use Rattle.elements.specs.Element.{elementAt}
-use Rattle.custom_type.specs.declared.Expanded.{Expanded}
-use Rattle.custom_type.specs.declared.Expanded.the-variants.{Characters, TooLong}
 use Rattle.custom_type.specs.Expansion.{expanded}
-use Rattle.custom_type.specs.Resolved.{told, fits, Resolved}
+use Rattle.custom_type.specs.Resolved.{fits}
 use Rattle.value.specs.declared.Kind.the-variants as kind
 use Rattle.value.specs.declared.Read.the-variants as read
 use Rattle.value.specs.declared.Shaped.the-variants as shaped
@@ -91,43 +88,3 @@ module _ (h : KLV) (payload : List ℕ) where
       → structures type h payload ≡ cond (fits (expanded type)) (structured (reading (expanded type)) h payload) (refused 8)
   with-type [] n = absurd (n refl)
   with-type (c ∷ type) n = refl
-
--- what the characters that were counted say
-pub record Written (type b : List ℕ) (n : ℕ) : Type 0 where
-  pub few : n ≤ 256
-  pub there : n ≤ length b
-  pub fitting : fits (expanded type) ≡ true
-  pub letters : take n b ≡ expanded type
-
-pub written : (type a b : List ℕ) (n : ℕ) (r : Expanded) → Resolved type a b r → r ≡ Characters n → Written type b n
-written type a b n r m e = go (fits (expanded type)) refl
-  where
-    go : (t : Bool) → fits (expanded type) ≡ t → Written type b n
-    go false f =
-        let w : TooLong ≡ told (expanded type) = sym (simp f) in
-        let o : Characters n ≡ TooLong = sym e ∙ m .is ∙ sym w in
-        let z : _≡_ {A = ℕ} 0 1 = cc in
-        absurd (omega arith)
-    go true f =
-        let w : Characters (length (expanded type)) ≡ told (expanded type) = sym (simp f) in
-        let o : Characters n ≡ Characters (length (expanded type)) = sym e ∙ m .is ∙ sym w in
-        let k : n ≡ length (expanded type) = cc in
-        let l : length (expanded type) ≤ 256 = leb-true (length (expanded type)) 256 f in
-        let out : b ≡ expanded type ++ drop (length (expanded type)) a = m .out ∙ simp f in
-        record {
-          few = omega arith;
-          there = rw out (simp length-append (omega arith));
-          fitting = f;
-          letters = (λ i. take (k i) (out i)) ∙ take-append-seam (expanded type) (drop (length (expanded type)) a);
-        }
-
-pub too-long : (type a b : List ℕ) (r : Expanded) → Resolved type a b r → r ≡ TooLong → fits (expanded type) ≡ false
-too-long type a b r m e = go (fits (expanded type)) refl
-  where
-    go : (t : Bool) → fits (expanded type) ≡ t → t ≡ false
-    go false f = refl
-    go true f =
-        let w : Characters (length (expanded type)) ≡ told (expanded type) = sym (simp f) in
-        let o : TooLong ≡ Characters (length (expanded type)) = sym e ∙ m .is ∙ sym w in
-        let z : _≡_ {A = ℕ} 0 1 = cc in
-        absurd (omega arith)

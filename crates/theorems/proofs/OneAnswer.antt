@@ -221,6 +221,8 @@ use Rattle.element_bits.proofs.lay.Kinds as lay-elements-kinds
 use Rattle.element_bits.proofs.lay.Reads as lay-elements-reads
 use Rattle.text_rows.proofs.lay.Kinds as lay-texts-kinds
 use Rattle.text_rows.proofs.lay.Reads as lay-texts-reads
+use Rattle.structure_rows.proofs.lay.Kinds as lay-structure-kinds
+use Rattle.structure_rows.proofs.lay.Reads as lay-structure-reads
 use Rattle.all_elements.proofs.elements_at.Kinds as elements-at-kinds
 use Rattle.all_elements.proofs.elements_at.Reads as elements-at-reads
 use Rattle.parts.proofs.bytes_at.Kinds as bytes-at-kinds
@@ -446,6 +448,9 @@ lay-elements κs a x y s t p q = (p .is ∙ sym (q .is), p .numbers ∙ sym (q .
 
 pub lay-texts : OneAnswer 2 lay-texts-kinds.ps lay-texts-kinds.r lay-texts-reads.Learnt (λ κs s. now (s .1 .1 .0))
 lay-texts κs a x y s t p q = (p .is ∙ sym (q .is), p .numbers ∙ sym (q .numbers))
+
+pub lay-structure : OneAnswer 3 lay-structure-kinds.ps lay-structure-kinds.r lay-structure-reads.Learnt (λ κs s. now (s .1 .1 .1 .0))
+lay-structure κs a x y s t p q = (p .is ∙ sym (q .is), p .numbers ∙ sym (q .numbers))
 
 pub elements-at : OneAnswer 2 elements-at-kinds.ps elements-at-kinds.r elements-at-reads.Learnt (λ κs s. now (s .1 .1 .1 .0))
 elements-at κs a x y s t p q = (p .is ∙ sym (q .is), p .numbers ∙ sym (q .numbers))
