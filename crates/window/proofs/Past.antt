@@ -1,4 +1,4 @@
--- A step past a packet over what is held: it and the one that overlaps it end where the next DEVC is found, sought from the last three bytes on.
+-- A step past a packet over what is held: it and the one that overlaps it end where the next DEVC is found, sought from the last bytes on.
 -- Assumes nothing.
 use Prim.Native.Nat.{ℕ, _+_, _-_, _<_, _≤_, _%_, _^_}
 use mathlib.Core.Path.{_≡_, refl, _∙_, sym, ap}
@@ -24,7 +24,7 @@ use Rattle.raw_file.proofs.Cursor.{handed}
 use Rattle.raw_file.proofs.Window.{stays, goes-on-late, more-from, more-packet}
 use Rattle.raw_file.proofs.Moved.{packetOn, nextOn}
 use Rattle.window.specs.declared.Places.{Places}
-use Rattle.window.specs.Steps.{mostHeld, overHeld, inFile, startAt, overlapping, readPast}
+use Rattle.window.specs.Steps.{mostHeld, lastBytes, overHeld, inFile, startAt, overlapping, readPast}
 use Rattle.window.proofs.Standing.{endingAt, soughtFrom, left, left-packets, left-sought, Stands, reaches, in-file, ends-in, next-in-it}
 use Rattle.window.proofs.Tells.{Keeping, stands-on}
 
@@ -39,10 +39,10 @@ module _ (window toCome : List ℕ) (at from : ℕ) (is : inWindow window true a
   late-end : length window ≤ devcOrEnd whole (from + 8) + 3
   late-end = more-packet window toCome at from is (omega arith) .end
 
-  -- the end, sought from any place between its start and the last three bytes
-  pub ends-late : (k : ℕ) → from + 8 ≤ k → k ≤ length window - 3 → devcOrEnd whole k ≡ devcOrEnd whole (length window - 3)
+  -- the end, sought from any place between its start and the last bytes
+  pub ends-late : (k : ℕ) → from + 8 ≤ k → k ≤ length window - lastBytes → devcOrEnd whole k ≡ devcOrEnd whole (length window - lastBytes)
   ends-late k low high =
-      sym (same-end whole (from + 8) k low (omega (arith, late-end))) ∙ same-end whole (from + 8) (length window - 3) (omega arith) (omega (arith, late-end))
+      sym (same-end whole (from + 8) k low (omega (arith, late-end))) ∙ same-end whole (from + 8) (length window - lastBytes) (omega arith) (omega (arith, late-end))
 
   -- the DEVC itself
   devc-there : findFrom whole from ≡ At from
@@ -75,10 +75,10 @@ module _ (window toCome : List ℕ) (at from : ℕ) (is : inWindow window true a
             absurd (omega (arith, at-it, late-end))
 
     -- its packet ends where the other does, and behind it there is no other DEVC before that
-    pub its-end : devcOrEnd whole (q + 8) ≡ devcOrEnd whole (length window - 3)
+    pub its-end : devcOrEnd whole (q + 8) ≡ devcOrEnd whole (length window - lastBytes)
     its-end = ends-late (q + 8) (omega (arith, near .0)) (omega (arith, near .1))
 
-    pub its-rest : devcOrEnd whole (q + 1) ≡ devcOrEnd whole (length window - 3)
+    pub its-rest : devcOrEnd whole (q + 1) ≡ devcOrEnd whole (length window - lastBytes)
     its-rest =
         let f = found whole (from + 1) q next-devc in
         let n : q + 8 - 4 ≡ q + 4 = omega arith in
@@ -90,14 +90,14 @@ module _ (window toCome : List ℕ) (at from : ℕ) (is : inWindow window true a
         sym (next-packet whole q q _ _ (here whole q (f .is)) (omega (arith, size, near .1)) refl refl)
 
   -- with none behind it in the window
-  pub none-near : findFrom window (from + 1) ≡ Nothing → devcOrEnd whole (from + 1) ≡ devcOrEnd whole (length window - 3)
+  pub none-near : findFrom window (from + 1) ≡ Nothing → devcOrEnd whole (from + 1) ≡ devcOrEnd whole (length window - lastBytes)
   none-near e =
-      ap (λ (f : Found). orEnd f (length whole)) (goes-on-late window toCome (from + 1) (length window - 3) e (omega arith) (omega arith))
+      ap (λ (f : Found). orEnd f (length whole)) (goes-on-late window toCome (from + 1) (length window - lastBytes) e (omega arith) (omega arith))
 
 module _ (file : List ℕ) (small : length file < 2 ^ 64) {window toCome : List ℕ} {p : Places} (stands : Stands file window toCome p) (none-sought : p .first ≤ 0)
     (from : ℕ) (is : inWindow window true (p .at) ≡ in-window.More from) (long : from + overHeld < length window) where
   abbrev last : ℕ
-  last = length window - 3
+  last = length window - lastBytes
 
   -- where both end, in the file
   abbrev end : ℕ

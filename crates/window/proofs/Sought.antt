@@ -16,7 +16,7 @@ use Rattle.raw_file.specs.Packets.{orEnd, devcOrEnd, packetsFrom}
 use Rattle.raw_file.proofs.Next.{devc-or-end, same-end}
 use Rattle.raw_file.proofs.Window.{stays, goes-on-late}
 use Rattle.window.specs.declared.Places.{Places}
-use Rattle.window.specs.Steps.{mostHeld, inFile, tellLong, readFrom, seekEnd}
+use Rattle.window.specs.Steps.{mostHeld, lastBytes, inFile, tellLong, readFrom, seekEnd}
 use Rattle.window.specs.Taking.{Told, long, toldOf}
 use Rattle.window.proofs.Standing.{endingAt, soughtFrom, left, left-packets, left-sought, Stands, reaches, in-file, ends-in}
 use Rattle.window.proofs.Tells.{toldLeft, Keeping, told-long, stands-on}
@@ -68,7 +68,7 @@ module _ (file : List ℕ) (small : length file < 2 ^ 64) {window toCome : List 
       )
 
   -- IT IS SOUGHT in what is read next
-  seeks-on : (from : ℕ) → findFrom window (p .at) ≡ Nothing → from ≡ max (p .at) (length window - 3) → Keeping file window toCome p (readFrom p from)
+  seeks-on : (from : ℕ) → findFrom window (p .at) ≡ Nothing → from ≡ max (p .at) (length window - lastBytes) → Keeping file window toCome p (readFrom p from)
   seeks-on from none e =
       let low : p .at ≤ from = omega arith in
       let high : from ≤ length window = omega (arith, stands .within) in
@@ -90,7 +90,7 @@ module _ (file : List ℕ) (small : length file < 2 ^ 64) {window toCome : List 
       split (At end) e more none =
           let f = found window (p .at) end e in
           tells end (ap (λ (x : Found). orEnd x (length (window ++ toCome))) (stays window toCome (p .at) end e)) (f .behind) (omega (arith, f .room))
-      split Nothing e true none = seeks-on (max (p .at) (length window - 3)) e refl
+      split Nothing e true none = seeks-on (max (p .at) (length window - lastBytes)) e refl
       split Nothing e false none =
           let all : window ++ toCome ≡ window = ap (λ (l : List ℕ). window ++ l) (none refl) ∙ append-nil window in
           tells (length window) (ap (λ (l : List ℕ). devcOrEnd l (p .at)) all ∙ ap (λ (x : Found). orEnd x (length window)) e) (stands .within) (omega arith)
