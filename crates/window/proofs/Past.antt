@@ -26,7 +26,7 @@ use Rattle.raw_file.proofs.Moved.{packetOn, nextOn}
 use Rattle.window.specs.declared.Places.{Places}
 use Rattle.window.specs.Steps.{mostHeld, lastBytes, overHeld, inFile, startAt, overlapping, readPast}
 use Rattle.window.proofs.Standing.{endingAt, soughtFrom, left, left-packets, left-sought, Stands, reaches, in-file, ends-in, next-in-it}
-use Rattle.window.proofs.Tells.{Keeping, stands-on}
+use Rattle.window.proofs.Tells.{KeepsLeft, stands-on}
 
 -- a DEVC in what is held and to come, so many bytes in front of the window's end, and the packet of which ends no more than three before that
 module _ (window toCome : List ℕ) (at from : ℕ) (is : inWindow window true at ≡ in-window.More from) (long : from + overHeld < length window) where
@@ -132,8 +132,12 @@ module _ (file : List ℕ) (small : length file < 2 ^ 64) {window toCome : List 
   abbrev second : ℕ
   second = overlapping (p .base) (findFrom window (from + 1))
 
-  -- both, and what is left behind them
-  both : left file p ≡ record { start = startAt (p .base) from; end = end } ∷ endingAt end second (packetsFrom file end)
+  -- both, by their end, and what is left behind them
+  unfoldable ending : ℕ → List Packet
+  ending k = record { start = startAt (p .base) from; end = k } ∷ endingAt k second (packetsFrom file k)
+
+  both : left file p ≡ ending end
+  unfolding ending
   both =
       let ends = ends-late window toCome (p .at) from is long (from + 8) (omega arith) (omega arith) in
       let first : from + 8 + p .base ≡ startAt (p .base) from = sym (start-at from (omega arith)) in
@@ -141,14 +145,19 @@ module _ (file : List ℕ) (small : length file < 2 ^ 64) {window toCome : List 
       ∙ ap (λ (x : NextPacket). handed file (nextOn (p .base) x)) (more-packet window toCome (p .at) from is (omega arith) .next)
       ∙ (λ i. record { start = first i; end = ends i + p .base } ∷ seconds (findFrom window (from + 1)) refl .0 i)
 
+  abbrev rest : Places
+  rest = record { base = inFile (p .base) last; at = 0; first = startAt (p .base) from; second = second }
+
+  then-left : left file rest ≡ ending (devcOrEnd file (0 + inFile (p .base) last))
+  unfolding ending
+  then-left = let first : startAt (p .base) from ≡ from + 8 + p .base = start-at from (omega arith) in left-sought file rest (omega arith)
+
   -- A STEP PAST A PACKET
-  pub past-keeps : Keeping file window toCome p (readPast window p from)
+  pub past-keeps : KeepsLeft file window toCome p (readPast window p from)
   past-keeps =
       let place : last + p .base ≡ 0 + inFile (p .base) last = omega (arith, in-file file stands small last (omega arith)) in
       let first : startAt (p .base) from ≡ from + 8 + p .base = start-at from (omega arith) in
-      let rest : Places = record { base = inFile (p .base) last; at = 0; first = startAt (p .base) from; second = second } in
       let sought : end ≡ devcOrEnd file (0 + inFile (p .base) last) = sym (ends-in file stands last) ∙ ap (devcOrEnd file) place in (
-        both ∙ ap (λ k. record { start = startAt (p .base) from; end = k } ∷ endingAt k second (packetsFrom file k)) sought
-            ∙ sym (left-sought file rest (omega arith)),
+        both ∙ ap ending sought ∙ sym then-left,
         stands-on file small stands (startAt (p .base) from) second last (omega arith) (λ u. omega arith) (seconds (findFrom window (from + 1)) refl .1),
       )
