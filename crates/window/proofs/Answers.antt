@@ -15,7 +15,7 @@ use Rattle.raw_file.specs.declared.InWindow.{InWindow}
 use Rattle.window.specs.declared.Places.{Places}
 use Rattle.window.specs.declared.Step.{Step}
 use Rattle.window.specs.declared.Step.the-variants.{Held, Long, Read}
-use Rattle.window.specs.Steps.{mostHeld, overHeld, inFile, cutFrom, readFrom, tellPacket, overlapping, readPast, tellNext, tellLong, seekEnd, nextStep}
+use Rattle.window.specs.Steps.{mostHeld, lastBytes, overHeld, inFile, cutFrom, readFrom, tellPacket, overlapping, readPast, tellNext, tellLong, seekEnd, nextStep}
 
 pub overlaps : (base : ℕ) (found : Found) (at x y : ℕ) → found ≡ At at → x ≡ inFile base at → y ≡ inFile x 8 → y ≡ overlapping base found
 overlaps base found at x y is e f = f ∙ ap (λ k. inFile k 8) e ∙ sym (ap (overlapping base) is)
@@ -49,10 +49,10 @@ module _ (p : Places) where
       reads-on h e = rw (le-ltb (from + overHeld) (length bytes) h) e
 
       pub seeks-both : (middle first second : ℕ) (found : Found) → middle ≡ inFile (p .base) from → first ≡ inFile middle 8 → found ≡ findFrom bytes (from + 1)
-          → second ≡ overlapping (p .base) found → answer ≡ readFrom (record { base = p .base; at = p .at; first = first; second = second }) (length bytes - 3)
+          → second ≡ overlapping (p .base) found → answer ≡ readFrom (record { base = p .base; at = p .at; first = first; second = second }) (length bytes - lastBytes)
           → answer ≡ readPast bytes p from
       seeks-both middle first second found m f is s e =
-          e ∙ (λ i. readFrom (record { base = p .base; at = p .at; first = (f ∙ ap (λ k. inFile k 8) m) i; second = (s ∙ ap (overlapping (p .base)) is) i }) (length bytes - 3))
+          e ∙ (λ i. readFrom (record { base = p .base; at = p .at; first = (f ∙ ap (λ k. inFile k 8) m) i; second = (s ∙ ap (overlapping (p .base)) is) i }) (length bytes - lastBytes))
 
     module _ (more : Bool) (answer : Step) where
       -- an end is sought
@@ -61,7 +61,7 @@ module _ (p : Places) where
       seeks found is known k e = e ∙ ap (seekEnd bytes more p) (sym k ∙ is)
 
       -- in what is read next
-      pub seeks-on : (found : Found) (from : ℕ) → found ≡ findFrom bytes (p .at) → found ≡ Nothing → more ≡ true → from ≡ max (p .at) (length bytes - 3)
+      pub seeks-on : (found : Found) (from : ℕ) → found ≡ findFrom bytes (p .at) → found ≡ Nothing → more ≡ true → from ≡ max (p .at) (length bytes - lastBytes)
           → answer ≡ readFrom p from → answer ≡ seekEnd bytes more p (findFrom bytes (p .at))
       seeks-on found from is k m f e =
           e ∙ ap (readFrom p) f ∙ ap (λ (b : Bool). seekEnd bytes b p Nothing) (sym m) ∙ ap (seekEnd bytes more p) (sym k ∙ is)

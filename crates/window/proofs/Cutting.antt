@@ -24,7 +24,7 @@ use Rattle.window.specs.declared.Step.the-variants.{Held, Long}
 use Rattle.window.specs.Steps.{mostHeld, overHeld, inFile, cutFrom, readFrom, tellPacket, readPast, tellNext}
 use Rattle.window.specs.Taking.{Told, long, toldOf}
 use Rattle.window.proofs.Standing.{left, left-packets, Stands, in-file, told-in}
-use Rattle.window.proofs.Tells.{toldLeft, Keeping, told-long, told-held, stands-on}
+use Rattle.window.proofs.Tells.{toldLeft, KeepsLeft, told-long, told-held, stands-on}
 use Rattle.window.proofs.Past.{past-keeps}
 
 -- with nothing more to come no more is wanted
@@ -44,7 +44,7 @@ further window at from h (unfound e q) = (omega arith, omega arith)
 module _ (file : List ℕ) (small : length file < 2 ^ 64) {window toCome : List ℕ} {p : Places} (stands : Stands file window toCome p) (none-sought : p .first ≤ 0) where
   -- A PACKET IS TOLD
   packet-keeps : (more : Bool) → (more ≡ false → toCome ≡ []) → (packet : Packet) (rest : Packets) → inWindow window more (p .at) ≡ in-window.Next packet rest
-      → Keeping file window toCome p (tellPacket p packet (rest .at))
+      → KeepsLeft file window toCome p (tellPacket p packet (rest .at))
   packet-keeps more none packet rest is = by-length (ltb mostHeld (packet .end - packet .start)) refl
     where
       first : left file p ≡ packetOn (p .base) packet ∷ left file (cutFrom p (rest .at))
@@ -53,7 +53,7 @@ module _ (file : List ℕ) (small : length file < 2 ^ 64) {window toCome : List 
           ∙ ap (λ (ps : List Packet). packetOn (p .base) packet ∷ ps) (sym (left-packets file (cutFrom p (rest .at)) (omega arith)))
 
       by-length : (b : Bool) → ltb mostHeld (packet .end - packet .start) ≡ b
-          → Keeping file window toCome p
+          → KeepsLeft file window toCome p
           (cond b (Long (inFile (p .base) (packet .start)) (packet .end - packet .start) (cutFrom p (rest .at)))
           (Held packet (inFile (p .base) (packet .start)) (cutFrom p (rest .at))))
       by-length true t =
@@ -74,7 +74,7 @@ module _ (file : List ℕ) (small : length file < 2 ^ 64) {window toCome : List 
           )
 
   -- MORE IS READ from a place on
-  read-keeps : (more : Bool) → (more ≡ false → toCome ≡ []) → (from : ℕ) → inWindow window more (p .at) ≡ in-window.More from → Keeping file window toCome p (readFrom p from)
+  read-keeps : (more : Bool) → (more ≡ false → toCome ≡ []) → (from : ℕ) → inWindow window more (p .at) ≡ in-window.More from → KeepsLeft file window toCome p (readFrom p from)
   read-keeps more none from is =
       let low : p .at ≤ from = further window (p .at) from (stands .within) (more-is window (p .at) more from is) .0 in
       let high : from ≤ length window = further window (p .at) from (stands .within) (more-is window (p .at) more from is) .1 in
@@ -86,16 +86,16 @@ module _ (file : List ℕ) (small : length file < 2 ^ 64) {window toCome : List 
       )
 
   -- A STEP
-  pub cut-keeps : (more : Bool) → (more ≡ false → toCome ≡ []) → Keeping file window toCome p (tellNext window p (inWindow window more (p .at)))
+  pub cut-keeps : (more : Bool) → (more ≡ false → toCome ≡ []) → KeepsLeft file window toCome p (tellNext window p (inWindow window more (p .at)))
   cut-keeps more none = split more none (inWindow window more (p .at)) refl
     where
       wanted : (more : Bool) → (more ≡ false → toCome ≡ []) → (from : ℕ) → inWindow window more (p .at) ≡ in-window.More from → (b : Bool)
-          → ltb (from + overHeld) (length window) ≡ b → Keeping file window toCome p (cond b (readPast window p from) (readFrom p from))
+          → ltb (from + overHeld) (length window) ≡ b → KeepsLeft file window toCome p (cond b (readPast window p from) (readFrom p from))
       wanted true none from is true t = past-keeps file small stands none-sought from is (ltb-true _ _ t)
       wanted false none from is true t = absurd (not-more window (p .at) from is)
       wanted more none from is false t = read-keeps more none from is
 
-      split : (more : Bool) → (more ≡ false → toCome ≡ []) → (x : InWindow) → inWindow window more (p .at) ≡ x → Keeping file window toCome p (tellNext window p x)
+      split : (more : Bool) → (more ≡ false → toCome ≡ []) → (x : InWindow) → inWindow window more (p .at) ≡ x → KeepsLeft file window toCome p (tellNext window p x)
       split more none (in-window.Next packet rest) is = packet-keeps more none packet rest is
       split more none (in-window.More from) is = wanted more none from is (ltb (from + overHeld) (length window)) refl
       split more none in-window.End is = left-packets file p none-sought ∙ told-in file stands more none ∙ ap (toldAndLeft file (p .base)) is

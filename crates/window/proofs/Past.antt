@@ -1,4 +1,4 @@
--- A step past a packet over what is held: it and the one that overlaps it end where the next DEVC is found, sought from the last three bytes on.
+-- A step past a packet over what is held: it and the one that overlaps it end where the next DEVC is found, sought from the last bytes on.
 -- Assumes nothing.
 use Prim.Native.Nat.{ℕ, _+_, _-_, _<_, _≤_, _%_, _^_}
 use mathlib.Core.Path.{_≡_, refl, _∙_, sym, ap}
@@ -13,6 +13,7 @@ use Rattle.search.specs.declared.Found.{Found}
 use Rattle.search.specs.declared.Found.the-variants.{At, Nothing}
 use Rattle.search.proofs.First.{found}
 use Rattle.search.proofs.Find.{here}
+use Rattle.raw_file.specs.declared.Packet.{Packet}
 use Rattle.raw_file.specs.declared.NextPacket.{NextPacket}
 use Rattle.raw_file.specs.declared.NextPacket.the-variants.{Next}
 use Rattle.raw_file.specs.declared.InWindow.the-variants as in-window
@@ -23,9 +24,9 @@ use Rattle.raw_file.proofs.Cursor.{handed}
 use Rattle.raw_file.proofs.Window.{stays, goes-on-late, more-packet}
 use Rattle.raw_file.proofs.Moved.{nextOn}
 use Rattle.window.specs.declared.Places.{Places}
-use Rattle.window.specs.Steps.{mostHeld, overHeld, inFile, startAt, overlapping, readPast}
+use Rattle.window.specs.Steps.{mostHeld, lastBytes, overHeld, inFile, startAt, overlapping, readPast}
 use Rattle.window.proofs.Standing.{endingAt, left, left-packets, left-sought, Stands, in-file, ends-in, next-in-it}
-use Rattle.window.proofs.Tells.{Keeping, stands-on}
+use Rattle.window.proofs.Tells.{KeepsLeft, stands-on}
 
 -- a DEVC in what is held and to come, so many bytes in front of the window's end, and the packet of which ends no more than three before that
 module _ (window toCome : List ℕ) (at from : ℕ) (is : inWindow window true at ≡ in-window.More from) (long : from + overHeld < length window) where
@@ -38,10 +39,10 @@ module _ (window toCome : List ℕ) (at from : ℕ) (is : inWindow window true a
   late-end : length window ≤ devcOrEnd whole (from + 8) + 3
   late-end = more-packet window toCome at from is (omega arith) .end
 
-  -- the end, sought from any place between its start and the last three bytes
-  pub ends-late : (k : ℕ) → from + 8 ≤ k → k ≤ length window - 3 → devcOrEnd whole k ≡ devcOrEnd whole (length window - 3)
+  -- the end, sought from any place between its start and the last bytes
+  pub ends-late : (k : ℕ) → from + 8 ≤ k → k ≤ length window - lastBytes → devcOrEnd whole k ≡ devcOrEnd whole (length window - lastBytes)
   ends-late k low high =
-      sym (same-end whole (from + 8) k low (omega (arith, late-end))) ∙ same-end whole (from + 8) (length window - 3) (omega arith) (omega (arith, late-end))
+      sym (same-end whole (from + 8) k low (omega (arith, late-end))) ∙ same-end whole (from + 8) (length window - lastBytes) (omega arith) (omega (arith, late-end))
 
   -- the DEVC itself
   devc-there : findFrom whole from ≡ At from
@@ -74,10 +75,10 @@ module _ (window toCome : List ℕ) (at from : ℕ) (is : inWindow window true a
             absurd (omega (arith, at-it, late-end))
 
     -- its packet ends where the other does, and behind it there is no other DEVC before that
-    pub its-end : devcOrEnd whole (q + 8) ≡ devcOrEnd whole (length window - 3)
+    pub its-end : devcOrEnd whole (q + 8) ≡ devcOrEnd whole (length window - lastBytes)
     its-end = ends-late (q + 8) (omega (arith, near .0)) (omega (arith, near .1))
 
-    pub its-rest : devcOrEnd whole (q + 1) ≡ devcOrEnd whole (length window - 3)
+    pub its-rest : devcOrEnd whole (q + 1) ≡ devcOrEnd whole (length window - lastBytes)
     its-rest =
         let f = found whole (from + 1) q next-devc in
         let n : q + 8 - 4 ≡ q + 4 = omega arith in
@@ -89,14 +90,14 @@ module _ (window toCome : List ℕ) (at from : ℕ) (is : inWindow window true a
         sym (next-packet whole q q _ _ (here whole q (f .is)) (omega (arith, size, near .1)) refl refl)
 
   -- with none behind it in the window
-  pub none-near : findFrom window (from + 1) ≡ Nothing → devcOrEnd whole (from + 1) ≡ devcOrEnd whole (length window - 3)
+  pub none-near : findFrom window (from + 1) ≡ Nothing → devcOrEnd whole (from + 1) ≡ devcOrEnd whole (length window - lastBytes)
   none-near e =
-      ap (λ (f : Found). orEnd f (length whole)) (goes-on-late window toCome (from + 1) (length window - 3) e (omega arith) (omega arith))
+      ap (λ (f : Found). orEnd f (length whole)) (goes-on-late window toCome (from + 1) (length window - lastBytes) e (omega arith) (omega arith))
 
 module _ (file : List ℕ) (small : length file < 2 ^ 64) {window toCome : List ℕ} {p : Places} (stands : Stands file window toCome p) (none-sought : p .first ≤ 0)
     (from : ℕ) (is : inWindow window true (p .at) ≡ in-window.More from) (long : from + overHeld < length window) where
   abbrev last : ℕ
-  last = length window - 3
+  last = length window - lastBytes
 
   -- where both end, in the file
   abbrev end : ℕ
@@ -131,8 +132,12 @@ module _ (file : List ℕ) (small : length file < 2 ^ 64) {window toCome : List 
   abbrev second : ℕ
   second = overlapping (p .base) (findFrom window (from + 1))
 
-  -- both, and what is left behind them
-  both : left file p ≡ record { start = startAt (p .base) from; end = end } ∷ endingAt end second (packetsFrom file end)
+  -- both, by their end, and what is left behind them
+  unfoldable ending : ℕ → List Packet
+  ending k = record { start = startAt (p .base) from; end = k } ∷ endingAt k second (packetsFrom file k)
+
+  both : left file p ≡ ending end
+  unfolding ending
   both =
       let ends = ends-late window toCome (p .at) from is long (from + 8) (omega arith) (omega arith) in
       let first : from + 8 + p .base ≡ startAt (p .base) from = sym (start-at from (omega arith)) in
@@ -140,14 +145,19 @@ module _ (file : List ℕ) (small : length file < 2 ^ 64) {window toCome : List 
       ∙ ap (λ (x : NextPacket). handed file (nextOn (p .base) x)) (more-packet window toCome (p .at) from is (omega arith) .next)
       ∙ (λ i. record { start = first i; end = ends i + p .base } ∷ seconds (findFrom window (from + 1)) refl .0 i)
 
+  abbrev rest : Places
+  rest = record { base = inFile (p .base) last; at = 0; first = startAt (p .base) from; second = second }
+
+  then-left : left file rest ≡ ending (devcOrEnd file (0 + inFile (p .base) last))
+  unfolding ending
+  then-left = let first : startAt (p .base) from ≡ from + 8 + p .base = start-at from (omega arith) in left-sought file rest (omega arith)
+
   -- A STEP PAST A PACKET
-  pub past-keeps : Keeping file window toCome p (readPast window p from)
+  pub past-keeps : KeepsLeft file window toCome p (readPast window p from)
   past-keeps =
       let place : last + p .base ≡ 0 + inFile (p .base) last = omega (arith, in-file file stands small last (omega arith)) in
       let first : startAt (p .base) from ≡ from + 8 + p .base = start-at from (omega arith) in
-      let rest : Places = record { base = inFile (p .base) last; at = 0; first = startAt (p .base) from; second = second } in
       let sought : end ≡ devcOrEnd file (0 + inFile (p .base) last) = sym (ends-in file stands last) ∙ ap (devcOrEnd file) place in (
-        both ∙ ap (λ k. record { start = startAt (p .base) from; end = k } ∷ endingAt k second (packetsFrom file k)) sought
-            ∙ sym (left-sought file rest (omega arith)),
+        both ∙ ap ending sought ∙ sym then-left,
         stands-on file small stands (startAt (p .base) from) second last (omega arith) (λ u. omega arith) (seconds (findFrom window (from + 1)) refl .1),
       )

@@ -17,7 +17,7 @@ use Rattle.raw_file.specs.declared.InWindow.the-variants as in-window
 use Rattle.raw_file.specs.Window.{inWindow}
 use Rattle.window.specs.declared.Places.{Places}
 use Rattle.window.specs.declared.Step.the-variants.{Held, Long, Read, End}
-use Rattle.window.specs.Steps.{mostHeld, overHeld, inFile, cutFrom, readFrom, tellPacket, readPast, tellNext, seekEnd, nextStep}
+use Rattle.window.specs.Steps.{mostHeld, lastBytes, overHeld, inFile, cutFrom, readFrom, tellPacket, readPast, tellNext, seekEnd, nextStep}
 use Rattle.window.proofs.Cutting.{not-more}
 
 module _ (window : List ℕ) (p : Places) (from : ℕ) (rest : Places) where
@@ -47,12 +47,12 @@ module _ (window : List ℕ) (p : Places) (from : ℕ) (rest : Places) where
   few-kept more e = split more (ltb 0 (p .first)) (findFrom window (p .at)) (inWindow window more (p .at)) e
     where
       wanted : (at : ℕ) (b : Bool) → ltb (at + overHeld) (length window) ≡ b → cond b (readPast window p at) (readFrom p at) ≡ Read from rest → length window ≤ from + overHeld
-      wanted at true t e = let q : length window - 3 ≡ from = cc in omega arith
+      wanted at true t e = let q : length window - lastBytes ≡ from = cc in omega arith
       wanted at false t e = let q : at ≡ from = cc in omega (arith, ltb-false (at + overHeld) (length window) t)
 
       split : (more b : Bool) (f : Found) (x : InWindow) → cond b (seekEnd window more p f) (tellNext window p x) ≡ Read from rest → length window ≤ from + overHeld
       split more true (At end) x e = let z : _≡_ {A = ℕ} 0 1 = cc in absurd (omega arith)
-      split true true Nothing x e = let q : max (p .at) (length window - 3) ≡ from = cc in omega arith
+      split true true Nothing x e = let q : max (p .at) (length window - lastBytes) ≡ from = cc in omega arith
       split false true Nothing x e = let z : _≡_ {A = ℕ} 0 1 = cc in absurd (omega arith)
       split more false f (in-window.Next packet on) e = absurd (not-told packet (on .at) e)
       split more false f (in-window.More at) e = wanted at (ltb (at + overHeld) (length window)) refl e

@@ -16,10 +16,10 @@ use Rattle.raw_file.specs.Packets.{orEnd, devcOrEnd, packetsFrom}
 use Rattle.raw_file.proofs.Next.{devc-or-end, same-end}
 use Rattle.raw_file.proofs.Window.{stays, goes-on-late}
 use Rattle.window.specs.declared.Places.{Places}
-use Rattle.window.specs.Steps.{mostHeld, inFile, tellLong, readFrom, seekEnd}
+use Rattle.window.specs.Steps.{mostHeld, lastBytes, inFile, tellLong, readFrom, seekEnd}
 use Rattle.window.specs.Taking.{Told, toldOf}
 use Rattle.window.proofs.Standing.{endingAt, left, left-packets, left-sought, Stands, reaches, in-file, ends-in}
-use Rattle.window.proofs.Tells.{toldLeft, Keeping, told-long, stands-on}
+use Rattle.window.proofs.Tells.{toldLeft, KeepsLeft, told-long, stands-on}
 
 module _ (file : List ℕ) (small : length file < 2 ^ 64) {window toCome : List ℕ} {p : Places} (stands : Stands file window toCome p) (sought : 0 < p .first) where
   -- the first and the second of them, by their end
@@ -40,7 +40,7 @@ module _ (file : List ℕ) (small : length file < 2 ^ 64) {window toCome : List 
       split false t = rw t (sym (left-packets file (record { base = p .base; at = at; first = p .second; second = 0 }) (ltb-false 0 (p .second) t)))
 
   -- THE END IS KNOWN
-  tells : (end : ℕ) → devcOrEnd (window ++ toCome) (p .at) ≡ end → p .at ≤ end → end ≤ length window → Keeping file window toCome p (tellLong p end)
+  tells : (end : ℕ) → devcOrEnd (window ++ toCome) (p .at) ≡ end → p .at ≤ end → end ≤ length window → KeepsLeft file window toCome p (tellLong p end)
   tells end is low high =
       let in-it : devcOrEnd file (p .at + p .base) ≡ end + p .base = ends-in file stands (p .at) ∙ ap (λ k. k + p .base) is in
       let inside : p .at + p .base ≤ length file = omega (arith, reaches file stands, stands .within) in
@@ -68,7 +68,7 @@ module _ (file : List ℕ) (small : length file < 2 ^ 64) {window toCome : List 
       )
 
   -- IT IS SOUGHT in what is read next
-  seeks-on : (from : ℕ) → findFrom window (p .at) ≡ Nothing → from ≡ max (p .at) (length window - 3) → Keeping file window toCome p (readFrom p from)
+  seeks-on : (from : ℕ) → findFrom window (p .at) ≡ Nothing → from ≡ max (p .at) (length window - lastBytes) → KeepsLeft file window toCome p (readFrom p from)
   seeks-on from none e =
       let low : p .at ≤ from = omega arith in
       let high : from ≤ length window = omega (arith, stands .within) in
@@ -83,14 +83,14 @@ module _ (file : List ℕ) (small : length file < 2 ^ 64) {window toCome : List 
       )
 
   -- A STEP
-  pub sought-keeps : (more : Bool) → (more ≡ false → toCome ≡ []) → Keeping file window toCome p (seekEnd window more p (findFrom window (p .at)))
+  pub sought-keeps : (more : Bool) → (more ≡ false → toCome ≡ []) → KeepsLeft file window toCome p (seekEnd window more p (findFrom window (p .at)))
   sought-keeps more none = split (findFrom window (p .at)) refl more none
     where
-      split : (f : Found) → findFrom window (p .at) ≡ f → (more : Bool) → (more ≡ false → toCome ≡ []) → Keeping file window toCome p (seekEnd window more p f)
+      split : (f : Found) → findFrom window (p .at) ≡ f → (more : Bool) → (more ≡ false → toCome ≡ []) → KeepsLeft file window toCome p (seekEnd window more p f)
       split (At end) e more none =
           let f = found window (p .at) end e in
           tells end (ap (λ (x : Found). orEnd x (length (window ++ toCome))) (stays window toCome (p .at) end e)) (f .behind) (omega (arith, f .room))
-      split Nothing e true none = seeks-on (max (p .at) (length window - 3)) e refl
+      split Nothing e true none = seeks-on (max (p .at) (length window - lastBytes)) e refl
       split Nothing e false none =
           let all : window ++ toCome ≡ window = ap (λ (l : List ℕ). window ++ l) (none refl) ∙ append-nil window in
           tells (length window) (ap (λ (l : List ℕ). devcOrEnd l (p .at)) all ∙ ap (λ (x : Found). orEnd x (length window)) e) (stands .within) (omega arith)

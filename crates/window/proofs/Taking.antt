@@ -17,7 +17,7 @@ use Rattle.window.specs.declared.Step.the-variants.{Held, Long, Read, En
 use Rattle.window.specs.Steps.{tellNext, seekEnd, nextStep}
 use Rattle.window.specs.Taking.{Told, held, long, bytesIn, toldOf, anyLeft, atStart, Takes, ends, tellsHeld, tellsLong, readsOn}
 use Rattle.window.proofs.Standing.{left-packets, Stands}
-use Rattle.window.proofs.Tells.{toldLeft, Keeping}
+use Rattle.window.proofs.Tells.{toldLeft, KeepsLeft}
 use Rattle.window.proofs.Sought.{sought-keeps}
 use Rattle.window.proofs.Cutting.{cut-keeps}
 use Rattle.window.proofs.Reading.{no-read-at-the-end}
@@ -25,19 +25,19 @@ use Rattle.window.proofs.Reading.{no-read-at-the-end}
 module _ (file : List ℕ) (small : length file < 2 ^ 64) where
   -- A STEP KEEPS what is left to be told
   pub step-keeps : {window toCome : List ℕ} {p : Places} → Stands file window toCome p → (more : Bool) → (more ≡ false → toCome ≡ [])
-      → Keeping file window toCome p (nextStep window more p)
+      → KeepsLeft file window toCome p (nextStep window more p)
   unfolding nextStep
   step-keeps {window} {toCome} {p} stands more none = split (ltb 0 (p .first)) refl
     where
       split : (b : Bool) → ltb 0 (p .first) ≡ b
-          → Keeping file window toCome p (cond b (seekEnd window more p (findFrom window (p .at))) (tellNext window p (inWindow window more (p .at))))
+          → KeepsLeft file window toCome p (cond b (seekEnd window more p (findFrom window (p .at))) (tellNext window p (inWindow window more (p .at))))
       split true t = sought-keeps file small stands (ltb-true _ _ t) more none
       split false t = cut-keeps file small stands (ltb-false _ _ t) more none
 
   -- a step that is known
   known-keeps : {window toCome : List ℕ} {p : Places} (more : Bool) (step : Step) → Stands file window toCome p → (more ≡ false → toCome ≡ [])
-      → nextStep window more p ≡ step → Keeping file window toCome p step
-  known-keeps {window} {toCome} {p} more step stands none e = subst (λ (s : Step). Keeping file window toCome p s) e (step-keeps stands more none)
+      → nextStep window more p ≡ step → KeepsLeft file window toCome p step
+  known-keeps {window} {toCome} {p} more step stands none e = subst (λ (s : Step). KeepsLeft file window toCome p s) e (step-keeps stands more none)
 
   -- with no read left nothing is to come
   none-left : (reads : List (List ℕ)) → anyLeft reads ≡ false → flatten reads ≡ []
@@ -66,12 +66,12 @@ module _ (file : List ℕ) (small : length file < 2 ^ 64) where
   abbrev Reading : List (List ℕ) → Type 0
   Reading reads =
       (window : List ℕ) (p : Places) (from : ℕ) (rest : Places) → nextStep window (anyLeft reads) p ≡ Read from rest
-      → Keeping file window (flatten reads) p (Read from rest) → Takes window p reads (toldLeft file p)
+      → KeepsLeft file window (flatten reads) p (Read from rest) → Takes window p reads (toldLeft file p)
 
   -- one step, and those behind it, which have less to tell
   one-step : (reads : List (List ℕ)) → Reading reads → (n : ℕ)
       → ((w : List ℕ) (q : Places) → Stands file w (flatten reads) q → length (toldLeft file q) < n → Takes w q reads (toldLeft file q)) → (window : List ℕ) (p : Places)
-      → length (toldLeft file p) ≤ n → (step : Step) → nextStep window (anyLeft reads) p ≡ step → Keeping file window (flatten reads) p step
+      → length (toldLeft file p) ≤ n → (step : Step) → nextStep window (anyLeft reads) p ≡ step → KeepsLeft file window (flatten reads) p step
       → Takes window p reads (toldLeft file p)
   one-step reads on n later window p h (Held packet start rest) e k =
       subst (λ (ts : List Told). Takes window p reads ts) (sym (k .0)) (tellsHeld e (later window rest (k .1) (omega (arith, ap length (k .0)))))

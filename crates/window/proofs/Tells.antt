@@ -20,12 +20,12 @@ module _ (file : List ℕ) where
   toldLeft p = map (toldOf file) (left file p)
 
   -- THE STEP KEEPS what is left
-  abbrev pub Keeping : List ℕ → List ℕ → Places → Step → Type 0
-  Keeping window toCome p (Held packet start rest) = (toldLeft p ≡ held start (bytesIn window packet) ∷ toldLeft rest) × Stands file window toCome rest
-  Keeping window toCome p (Long start bytes rest) = (toldLeft p ≡ long start bytes ∷ toldLeft rest) × Stands file window toCome rest
-  Keeping window toCome p (Read from rest) =
+  abbrev pub KeepsLeft : List ℕ → List ℕ → Places → Step → Type 0
+  KeepsLeft window toCome p (Held packet start rest) = (toldLeft p ≡ held start (bytesIn window packet) ∷ toldLeft rest) × Stands file window toCome rest
+  KeepsLeft window toCome p (Long start bytes rest) = (toldLeft p ≡ long start bytes ∷ toldLeft rest) × Stands file window toCome rest
+  KeepsLeft window toCome p (Read from rest) =
       (left file p ≡ left file rest) × ((read reads : List ℕ) → toCome ≡ read ++ reads → Stands file (drop from window ++ read) reads rest)
-  Keeping window toCome p End = left file p ≡ []
+  KeepsLeft window toCome p End = left file p ≡ []
 
   -- a packet over what is held
   pub told-long : (start end bytes : ℕ) → end - start ≡ bytes → mostHeld < bytes → toldOf file (record { start = start; end = end }) ≡ long start bytes

@@ -21,10 +21,14 @@ use Rattle.window.specs.declared.Step.the-variants.{Held, Long, Read, En
 abbrev pub mostHeld : ℕ
 mostHeld = 65536
 
+-- a DEVC may begin in the last three bytes of a window and end in what is read next
+abbrev pub lastBytes : ℕ
+lastBytes = 3
+
 -- with more bytes of a window behind a DEVC's place its packet is over what is held wherever it ends, and so is one that overlaps it: 8 to its start,
--- the most, 3 in which the DEVC that ends it may begin, and 7 by which the other may start later
+-- the most, those in which the DEVC that ends it may begin, and 7 by which the other may start later
 abbrev pub overHeld : ℕ
-overHeld = 8 + mostHeld + 3 + 7
+overHeld = 8 + mostHeld + lastBytes + 7
 
 -- the place in the file of a place in a window, by the place in the file of the window's first byte; places in a file have 64 bits
 abbrev pub inFile : ℕ → ℕ → ℕ
@@ -53,10 +57,10 @@ abbrev pub overlapping : ℕ → Found → ℕ
 overlapping base (At at) = startAt base at
 overlapping base Nothing = 0
 
--- a packet over what is held, whose DEVC stands at a place: its end is sought, and that of the one that overlaps it, from the last three bytes on
+-- a packet over what is held, whose DEVC stands at a place: its end is sought, and that of the one that overlaps it, from the last bytes on
 abbrev pub readPast : List ℕ → Places → ℕ → Step
 readPast bytes p from =
-    readFrom (record { base = p .base; at = p .at; first = startAt (p .base) from; second = overlapping (p .base) (findFrom bytes (from + 1)) }) (length bytes - 3)
+    readFrom (record { base = p .base; at = p .at; first = startAt (p .base) from; second = overlapping (p .base) (findFrom bytes (from + 1)) }) (length bytes - lastBytes)
 
 -- by what the window tells
 abbrev pub tellNext : List ℕ → Places → InWindow → Step
@@ -68,10 +72,10 @@ tellNext bytes p in-window.End = End
 abbrev pub tellLong : Places → ℕ → Step
 tellLong p end = Long (p .first) (inFile (p .base) end - p .first) (record { base = p .base; at = end; first = p .second; second = 0 })
 
--- an end is sought: "to the next `DEVC` searched from there, or the end"; a DEVC may begin in the last three bytes and end in what is read next
+-- an end is sought: "to the next `DEVC` searched from there, or the end"
 abbrev pub seekEnd : List ℕ → Bool → Places → Found → Step
 seekEnd bytes more p (At end) = tellLong p end
-seekEnd bytes true p Nothing = readFrom p (max (p .at) (length bytes - 3))
+seekEnd bytes true p Nothing = readFrom p (max (p .at) (length bytes - lastBytes))
 seekEnd bytes false p Nothing = tellLong p (length bytes)
 
 -- THE NEXT STEP, by the window's bytes and whether the file goes on behind them

@@ -9,14 +9,17 @@ ghost use Prim.Native.Nat.{_+_, _-_, _<_, max, min};
 ghost use lib.Dec.{ltb};
 ghost use lib.ListN.{length};
 ghost use Rattle.search.specs.Search.{findFrom};
-ghost use Rattle.window.specs.Steps.{overHeld, inFile, readFrom, tellPacket, overlapping, readPast, tellLong, seekEnd, nextStep, Keeps};
+ghost use Rattle.window.specs.Steps.{lastBytes, overHeld, inFile, readFrom, tellPacket, overlapping, readPast, tellLong, seekEnd, nextStep, Keeps};
 
 // The most bytes that are held of a packet.
 pub const MOST_BYTES: usize = 65536;
 
+// The last bytes of a window, in which a DEVC may begin that ends in what is read next.
+const LAST_BYTES: usize = 3;
+
 // How many bytes of a window say that a packet is over what is held, and the one that may overlap it too: a DEVC and four bytes, the most bytes,
-// three in which its end may begin, and seven by which the other may start later.
-const OVER: usize = Packets::HEADER + MOST_BYTES + 3 + 7;
+// the last ones, in which its end may begin, and seven by which the other may start later.
+const OVER: usize = Packets::HEADER + MOST_BYTES + LAST_BYTES + 7;
 
 // The place of the window's first byte in the file, where the cutting or the search goes on in the window, and where the packets start in
 // the file whose end is sought: 0 for none. At most two overlap.
@@ -109,7 +112,7 @@ fn read_past(places: Places, window: &[u8], from: usize) -> Step
         first,
         second,
     };
-    read_from(sought, window.len() - 3)
+    read_from(sought, window.len() - LAST_BYTES)
 }
 
 // Where the packet starts whose DEVC was found behind another.
@@ -145,7 +148,7 @@ fn seek_end(places: Places, window: &[u8], more: bool) -> Step
         Found::At(end) => tell_long(places, end),
         Found::Nothing => {
             if more {
-                return read_from(places, last_three(window.len(), places.at));
+                return read_from(places, last_bytes(window.len(), places.at));
             }
             tell_long(places, window.len())
         }
@@ -187,14 +190,18 @@ fn between(start: u64, end: u64) -> u64
     end - start
 }
 
-// Where the last three of so many bytes begin, in which a DEVC may begin that ends in what is read next; but not before a place.
-fn last_three(count: usize, at: usize) -> usize
-    ensures { λ r. ⌜ r ≡ max at (count - 3) ⌝ }
+// Where the last of so many bytes begin, but not before a place.
+fn last_bytes(count: usize, at: usize) -> usize
+    ensures { λ r. ⌜ r ≡ max at (count - lastBytes) ⌝ }
 {
-    if count < 3 {
+    if count < LAST_BYTES {
         return at;
     }
-    if count - 3 < at { at } else { count - 3 }
+    if count - LAST_BYTES < at {
+        at
+    } else {
+        count - LAST_BYTES
+    }
 }
 
 // Moves the bytes from a place on to the front, of so many, and answers how many they are.

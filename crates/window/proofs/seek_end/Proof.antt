@@ -17,8 +17,8 @@ tell-long-requires c κs = search needs
 enum-told : tie.Need-enum-told
 enum-told c = search needs
 
-last-three-requires : tie.Need-last-three-requires
-last-three-requires c κs = search needs
+last-bytes-requires : tie.Need-last-bytes-requires
+last-bytes-requires c κs = search needs
 
 read-from-requires : tie.Need-read-from-requires
 read-from-requires c κs = search needs
@@ -27,7 +27,7 @@ returns : tie.Need-returns
 returns c =
     let f = c .before .before .before .before .before in
     let a = f .before .before .args in
-    seeks-on (a .places) (a .window .now) (a .more) _ _ _ (f .find-devc .ensures) (c .before .before .before .enum-told .given .1) (c .before .before .if1 .taken) (c .before .last-three .ensures) (c .read-from .ensures)
+    seeks-on (a .places) (a .window .now) (a .more) _ _ _ (f .find-devc .ensures) (c .before .before .before .enum-told .given .1) (c .before .before .if1 .taken) (c .before .last-bytes .ensures) (c .read-from .ensures)
 
 tell-long-requires-2 : tie.Need-tell-long-requires-2
 tell-long-requires-2 c κs = search needs
@@ -53,7 +53,7 @@ seek-end-spec =
     enum-known-end
     tell-long-requires
     enum-told
-    last-three-requires
+    last-bytes-requires
     read-from-requires
     returns
     tell-long-requires-2
