@@ -46,17 +46,17 @@ fn write_average(average: Average) {
 
 // The lists have room for more packets than are asked; the shortest says how many there are.
 fn average_of(question: &[u8], words: usize) -> Average {
-    let mut counts = count_list();
-    let mut stamps = stamp_list();
+    let mut counts = [0u32; 64];
+    let mut stamps = [0u64; 64];
     fill_counts(question, &mut counts);
     fill_stamps(question, &mut stamps);
     average_by(question, words, &counts, &stamps)
 }
 
 fn average_by(question: &[u8], words: usize, counts: &[u32], stamps: &[u64]) -> Average {
-    let mut stamped = flag_list();
-    let mut durations = duration_list();
-    let mut missing = flag_list();
+    let mut stamped = [0u8; 64];
+    let mut durations = [0.0; 64];
+    let mut missing = [0u8; 64];
     fill_flags(question, &mut stamped, 1, b'-');
     fill_durations(question, &mut durations);
     fill_flags(question, &mut missing, 3, b'0');
@@ -67,22 +67,6 @@ fn average_by(question: &[u8], words: usize, counts: &[u32], stamps: &[u64]) -> 
         &durations,
         &missing,
     )
-}
-
-fn count_list() -> [u32; 64] {
-    [0u32; 64]
-}
-
-fn flag_list() -> [u8; 64] {
-    [0u8; 64]
-}
-
-fn stamp_list() -> [u64; 64] {
-    [0u64; 64]
-}
-
-fn duration_list() -> [f64; 64] {
-    [0.0; 64]
 }
 
 // As many as there are packets: the first word is the question's name.
@@ -147,7 +131,7 @@ fn fill_durations(question: &[u8], durations: &mut [f64]) {
 
 // The f64 of sixteen hex digits.
 fn duration_of(word: &[u8]) -> f64 {
-    let mut bytes = flag_list();
+    let mut bytes = [0u8; 64];
     let Decoded::Bytes(n) = line::unhex(word, &mut bytes) else {
         return 0.0;
     };

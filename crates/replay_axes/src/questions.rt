@@ -10,7 +10,7 @@ use line::Decoded;
 
 // The first word behind the name is in hex.
 pub(crate) fn answer(question: &[u8]) {
-    let mut bytes = byte_buffer();
+    let mut bytes = [0u8; 8192];
     match words::unhex_word(word(question, 1), &mut bytes) {
         Decoded::Bytes(count) => answer_of(question, words::part(&bytes, 0, count)),
         _ => write_unknown(),
@@ -19,10 +19,6 @@ pub(crate) fn answer(question: &[u8]) {
 
 fn word(question: &[u8], index: usize) -> &[u8] {
     line::piece(question, b' ', index)
-}
-
-fn byte_buffer() -> [u8; 8192] {
-    [0u8; 8192]
 }
 
 fn write_unknown() {
@@ -42,7 +38,7 @@ fn answer_of(question: &[u8], bytes: &[u8]) {
 
 // matrix ORIN ORIO
 fn answer_matrix(orin: &[u8], hex: &[u8]) {
-    let mut orio = text_buffer();
+    let mut orio = [0u8; 64];
     match words::unhex_word(hex, &mut orio) {
         Decoded::Bytes(count) => write_matrix(axes::orientations_of(
             orin,
@@ -50,10 +46,6 @@ fn answer_matrix(orin: &[u8], hex: &[u8]) {
         )),
         _ => write_unknown(),
     }
-}
-
-fn text_buffer() -> [u8; 64] {
-    [0u8; 64]
 }
 
 fn write_matrix(orientations: Orientations) {
@@ -79,7 +71,7 @@ fn write_row(mark: u8, row: [f32; 3]) {
 
 // back HEX
 fn answer_back(bytes: &[u8]) {
-    let mut numbers = number_buffer();
+    let mut numbers = [0.0; 16];
     fill(bytes, &mut numbers);
     write_back(axes::mtrx_to_orientation(first_numbers(&numbers, bytes.len() / 4)));
 }
@@ -93,10 +85,6 @@ fn write_back(orientation: Orientation) {
         }
         _ => write(b"panic"),
     }
-}
-
-fn number_buffer() -> [f32; 16] {
-    [0.0; 16]
 }
 
 fn fill(bytes: &[u8], numbers: &mut [f32]) {

@@ -1,6 +1,4 @@
 // The Rust's names for the kinds of values, with the type where it is a part of the name.
-use klv::Cursor;
-use klv::Header;
 use rows::RowAt;
 use value::Kind;
 use value::Shape;
@@ -18,23 +16,14 @@ pub(crate) fn write(s: &[u8]) {
     io::write_all(libc::STDOUT_FILENO, s);
 }
 
-// VARIANT of a row's value, with a space before it
+// VARIANT of a row's value, with a space before it; the letter of its type stands in the row
 fn write_kind(payload: &[u8], row: RowAt) {
     if let RowAt::Is(row) = row {
-        let place = row.place as usize;
         write(b" ");
-        match values::shape_at(payload, place, row.type_place as usize) {
-            Shaped::Is(shape) => write_name(shape, letter_at(payload, place)),
+        match values::shape_at(payload, row.place as usize, row.type_place as usize) {
+            Shaped::Is(shape) => write_name(shape, (row.shape / 0x100_0000) as u8),
             _ => write(b"-"),
         }
-    }
-}
-
-// The letter of the type of the item at a place.
-fn letter_at(payload: &[u8], place: usize) -> u8 {
-    match Cursor::new(place).parse_header(payload) {
-        Header::Item(klv) => klv.data_type,
-        _ => 0,
     }
 }
 

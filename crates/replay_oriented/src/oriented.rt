@@ -28,19 +28,15 @@ fn write_unknown() {
 }
 
 fn answer_oriented(hex: &[u8]) {
-    let mut payload = payload_buffer();
+    let mut payload = [0u8; 8192];
     match words::unhex_word(hex, &mut payload) {
         Decoded::Bytes(count) => write_reading(words::part(&payload, 0, count)),
         _ => write_unknown(),
     }
 }
 
-fn payload_buffer() -> [u8; 8192] {
-    [0u8; 8192]
-}
-
 fn write_reading(payload: &[u8]) {
-    let mut rows = row_buffer();
+    let mut rows = [0u32; 16384];
     match metadata::parse_metadata(payload, false, &mut rows) {
         Metadata::Rows {
             rows: count,
@@ -48,10 +44,6 @@ fn write_reading(payload: &[u8]) {
         } => write_oriented(payload, &rows, count),
         _ => write(b"err"),
     }
-}
-
-fn row_buffer() -> [u32; 16384] {
-    [0u32; 16384]
 }
 
 // Where the Rust panics, some group is refused.

@@ -10,13 +10,9 @@ use raw_metadata::NextMetadata;
 
 // cuts HEX, or packets HEX
 pub(crate) fn answer_file(file: &[u8], cuts: bool) {
-    let mut rows = row_buffer();
+    let mut rows = [0u32; 16384];
     write(b"ok");
     write_packets(file, cuts, &mut rows);
-}
-
-fn row_buffer() -> [u32; 16384] {
-    [0u32; 16384]
 }
 
 // A packet starts at every fourth byte at most.

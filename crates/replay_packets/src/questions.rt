@@ -4,17 +4,13 @@ use crate::writing::write;
 use line::Decoded;
 
 pub(crate) fn answer(question: &[u8]) {
-    let mut file = file_buffer();
+    let mut file = [0u8; 8192];
     match words::unhex_word(line::piece(question, b' ', 1), &mut file) {
         Decoded::Bytes(count) => {
             answer_of(line::piece(question, b' ', 0), words::part(&file, 0, count));
         }
         _ => write_unknown(),
     }
-}
-
-fn file_buffer() -> [u8; 8192] {
-    [0u8; 8192]
 }
 
 fn write_unknown() {

@@ -5,7 +5,7 @@ use crate::writing::write_decimal;
 use crate::writing::write_hex;
 use crate::writing::write_hex_bytes;
 use klv::Cursor;
-use klv::Header;
+use klv::KLV;
 use rows::Found;
 use rows::Row;
 use rows::RowAt;
@@ -22,7 +22,7 @@ pub(crate) fn write_rows(payload: &[u8], rows: &[u32], count: usize) {
 fn write_row(payload: &[u8], rows: &[u32], count: usize, n: usize) {
     if let RowAt::Is(row) = rows::row_at(rows, n) {
         write_key(row);
-        write_raw(payload, row.place as usize);
+        write_raw(payload, row);
         write_byte(b',');
         write_byte(kept(rows, count, row, n));
     }
@@ -46,11 +46,15 @@ fn write_group(row: Row) {
     }
 }
 
-// The bytes of the item at a place, its header first.
-fn write_raw(payload: &[u8], place: usize) {
-    if let Header::Item(klv) = Cursor::new(place).parse_header(payload) {
-        write_hex_bytes(words::part(payload, place, Cursor::HEADER + klv.data_len()));
-    }
+// The bytes of a row's item, its header first: its size and its repeat stand in the row.
+fn write_raw(payload: &[u8], row: Row) {
+    let klv = KLV {
+        key: row.key,
+        data_type: 0,
+        size: (row.shape / 65536 % 256) as u8,
+        repeat: (row.shape % 65536) as u16,
+    };
+    write_hex_bytes(words::part(payload, row.place as usize, Cursor::HEADER + klv.data_len()));
 }
 
 // 1 where a row is the one that lookup finds for its group, tag and key, and else 0.
