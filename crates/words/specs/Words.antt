@@ -6,7 +6,8 @@ use mathlib.Core.Bool.{Bool, cond, _&&_}
 use mathlib.Core.List.{List, []}
 use lib.Dec.{eqb}
 use lib.ListN.{length, getD, drop}
-use Rattle.line.specs.Read.{piecesOf, decoded, decodedInto}
+use Rattle.foundation.specs.Pieces.{piecesOf}
+use Rattle.line.specs.Read.{decoded, decodedInto}
 use Rattle.line.specs.declared.Decoded.{Decoded}
 use Rattle.line.specs.declared.Decoded.the-variants.{Bytes, NotHex}
 

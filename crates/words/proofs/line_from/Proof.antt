@@ -5,7 +5,7 @@ use native.Mathlib.Omega.{arith}
 use borrow.Author.Needs.{needs}
 use lib.ListN.{length, getD, drop, length-drop}
 use lib.Seq.{take-all}
-use Rattle.line.specs.Read.{piecesOf}
+use Rattle.foundation.specs.Pieces.{piecesOf}
 use Rattle.words.specs.Words.{lineFrom}
 use Rattle.words.proofs.line_from.Statement.{statement}
 use Rattle.words.proofs.line_from.Tie as tie
