@@ -9,7 +9,7 @@ use crate::writing::write_signed;
 use elements::Element;
 use klv::Cursor;
 use klv::Header;
-use value::Columns;
+use value::Count;
 use value::Kind;
 use value::Read;
 use value::Shape;
@@ -191,7 +191,7 @@ fn write_column(read: Read, column: usize, is_text: bool) {
 // The columns of a row; none where there is no such row.
 fn columns_of(payload: &[u8], place: usize, type_place: usize, row: usize) -> usize {
     match values::columns_at(payload, place, type_place, row) {
-        Columns::Are(columns) => columns,
+        Count::Are(columns) => columns,
         _ => 0,
     }
 }
