@@ -1,5 +1,5 @@
--- What each answer is told as to a caller in another language: a record of numbers, of which those that the answer does not have are 0
--- (document 01, Refusal numbers: "A refusal returns its number, a place and zeros"). Assumes nothing: these are definitions.
+-- What a whole number, an item and a part are told as to a caller in another language: a record of numbers, of which those that the answer does not have
+-- are 0 (document 01, Refusal numbers: "A refusal returns its number, a place and zeros"). Assumes nothing: these are definitions.
 use Prim.Native.Nat.{ℕ}
 use Rattle.foundation.specs.Refusals as refusals
 use Rattle.klv.specs.declared.KLV.{KLV}
@@ -29,10 +29,8 @@ use Rattle.values.specs.declared.Headed.{Headed}
 use Rattle.values.specs.declared.Headed.the-variants as headed
 use Rattle.parts.specs.declared.Part.{Part}
 use Rattle.parts.specs.declared.Part.the-variants as part-of
-use Rattle.value.specs.declared.Columns.{Columns}
-use Rattle.value.specs.declared.Columns.the-variants as columns
-use Rattle.all_elements.specs.declared.Elements.{Elements}
-use Rattle.all_elements.specs.declared.Elements.the-variants as elements
+use Rattle.value.specs.declared.Count.{Count}
+use Rattle.value.specs.declared.Count.the-variants as count
 use Rattle.answers.specs.Kinds.{refused, is, nothing, more}
 use Rattle.answers.specs.declared.WholeAnswer.{WholeAnswer}
 use Rattle.answers.specs.declared.ItemAnswer.{ItemAnswer}
@@ -55,15 +53,10 @@ ofDate (date.Milliseconds n) = whole is 0 0 n
 ofDate date.TooFew = whole refused (Date.refusal date.TooFew) 0 0
 ofDate date.Unreadable = whole refused (Date.refusal date.Unreadable) 0 0
 
--- the columns of a row
-abbrev pub ofColumns : Columns → WholeAnswer
-ofColumns (columns.Are n) = whole is 0 0 n
-ofColumns (columns.Refused number place) = whole refused number place 0
-
--- how many elements were laid
-abbrev pub ofElements : Elements → WholeAnswer
-ofElements (elements.Are n) = whole is 0 0 n
-ofElements (elements.Refused number place) = whole refused number place 0
+-- the columns of a row, or how many elements were laid
+abbrev pub ofCount : Count → WholeAnswer
+ofCount (count.Are n) = whole is 0 0 n
+ofCount (count.Refused number place) = whole refused number place 0
 
 -- the row that a lookup finds
 abbrev pub ofFound : Found → WholeAnswer

@@ -1,6 +1,5 @@
 // Answers as plain records of numbers, for callers in other languages: the kind of answer, a refusal's number and place, and the values.
-// What an answer does not have is 0.
-use all_elements::Elements;
+// What an answer does not have is 0. Here whole numbers, items and parts.
 use custom_type::Expanded;
 use dates::Date;
 use klv::Header;
@@ -9,7 +8,7 @@ use last_item::LastItem;
 use parts::Part;
 use stamps::Stamp;
 use tagged::Tagged;
-use value::Columns;
+use value::Count;
 use values::Headed;
 ghost use mathlib.Core.Path.{_≡_};
 ghost use Rattle.answers.specs.Answers as tells;
@@ -62,22 +61,13 @@ pub fn of_date(x: Date) -> WholeAnswer
     }
 }
 
-pub fn of_columns(x: Columns) -> WholeAnswer
-    ensures { λ r. ⌜ r ≡ tells.ofColumns x ⌝ }
+// How many columns a row has, or how many elements were laid.
+pub fn of_count(x: Count) -> WholeAnswer
+    ensures { λ r. ⌜ r ≡ tells.ofCount x ⌝ }
 {
     match x {
-        Columns::Are(n) => whole(IS, 0, 0, n as u64),
-        Columns::Refused { number, place } => whole(REFUSED, number, place, 0),
-    }
-}
-
-// How many elements were laid.
-pub fn of_elements(x: Elements) -> WholeAnswer
-    ensures { λ r. ⌜ r ≡ tells.ofElements x ⌝ }
-{
-    match x {
-        Elements::Are(n) => whole(IS, 0, 0, n as u64),
-        Elements::Refused { number, place } => whole(REFUSED, number, place, 0),
+        Count::Are(n) => whole(IS, 0, 0, n as u64),
+        Count::Refused { number, place } => whole(REFUSED, number, place, 0),
     }
 }
 

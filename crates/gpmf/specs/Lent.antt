@@ -20,7 +20,7 @@ use Rattle.all_elements.specs.Laid.{toldOfFound, lentOfFound}
 use Rattle.answers.specs.declared.WholeAnswer.{WholeAnswer}
 use Rattle.reading_answers.specs.declared.MetadataAnswer.{MetadataAnswer}
 use Rattle.reading_answers.specs.declared.PacketMetadataAnswer.{PacketMetadataAnswer}
-use Rattle.answers.specs.Answers.{ofExpanded, ofElements, ofDecoded}
+use Rattle.answers.specs.Answers.{ofExpanded, ofCount, ofDecoded}
 use Rattle.reading_answers.specs.Answers.{ofMetadata, ofNextMetadata, ofMetadataInWindow}
 
 -- a TYPE text written out
@@ -50,5 +50,5 @@ pub record DecodesAs (s out : List ℕ) (answer : WholeAnswer) (after : List ℕ
 
 -- all elements of the value of what was found at a place
 pub record ElementsAs (f : Found) (at : ℕ) (old : List ℕ) (answer : WholeAnswer) (new : List ℕ) : Type 0 where
-  pub is : answer ≡ ofElements (toldOfFound f at (length old))
+  pub is : answer ≡ ofCount (toldOfFound f at (length old))
   pub numbers : new ≡ lentOfFound f old

@@ -9,7 +9,7 @@ ghost use Rattle.items.specs.At.{foundAt};
 ghost use Rattle.values.specs.At.{klvOfFound, elementOfFound, shapeOfFound, columnsOfFound};
 ghost use Rattle.parts.specs.Parts.{bytesOfFound, textOfFound};
 ghost use Rattle.gpmf.specs.Lent.{ElementsAs};
-ghost use Rattle.answers.specs.Answers.{ofHeaded, ofColumns, ofPart};
+ghost use Rattle.answers.specs.Answers.{ofHeaded, ofCount, ofPart};
 ghost use Rattle.value_answers.specs.Answers.{ofRead, ofShaped};
 
 // The element at a row and a column, by way of a view.
@@ -37,9 +37,9 @@ pub extern "C" fn gpmf_shape_at(s: &[u8], at: usize, type_at: usize) -> ShapeAns
 // The columns of a row.
 #[no_mangle]
 pub extern "C" fn gpmf_columns_at(s: &[u8], at: usize, type_at: usize, row: usize) -> WholeAnswer
-    ensures { λ r. ⌜ r ≡ ofColumns (columnsOfFound (foundAt (now (s .entry)) at «type_at») at row) ⌝ }
+    ensures { λ r. ⌜ r ≡ ofCount (columnsOfFound (foundAt (now (s .entry)) at «type_at») at row) ⌝ }
 {
-    answers::of_columns(values::columns_at(s, at, type_at, row))
+    answers::of_count(values::columns_at(s, at, type_at, row))
 }
 
 // The header of the item at a place.
@@ -76,5 +76,5 @@ pub extern "C" fn gpmf_elements_at(
 ) -> WholeAnswer
     ensures { λ r. ⌜ ElementsAs (foundAt (now (s .entry)) at «type_at») at (now (numbers .entry)) r (now (numbers .exit)) ⌝ }
 {
-    answers::of_elements(all_elements::elements_at(s, at, type_at, numbers))
+    answers::of_count(all_elements::elements_at(s, at, type_at, numbers))
 }

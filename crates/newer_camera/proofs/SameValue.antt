@@ -7,7 +7,7 @@ use mathlib.Core.List.{List, List·Memᴰ}
 use lib.Dec.{ltb}
 use Rattle.reading.specs.Record.{Record}
 use Rattle.value.specs.declared.Read.the-variants as read
-use Rattle.value.specs.declared.Columns.the-variants as columns
+use Rattle.value.specs.declared.Count.the-variants as columns
 use Rattle.value.specs.Value.{Outcome, readable, refused, valueOf}
 use Rattle.value.specs.Answer.{elementIn, shapeIn, columnsIn}
 use Rattle.newer_camera.specs.PutIn.{PutIn}

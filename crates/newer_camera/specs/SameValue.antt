@@ -8,8 +8,8 @@ use Rattle.value.specs.declared.Read.{Read}
 use Rattle.value.specs.declared.Read.the-variants as read
 use Rattle.value.specs.declared.Shaped.{Shaped}
 use Rattle.value.specs.declared.Shaped.the-variants as shaped
-use Rattle.value.specs.declared.Columns.{Columns}
-use Rattle.value.specs.declared.Columns.the-variants as columns
+use Rattle.value.specs.declared.Count.{Count}
+use Rattle.value.specs.declared.Count.the-variants as columns
 use Rattle.values.specs.At.{elementOfFound, shapeOfFound, columnsOfFound}
 use Rattle.newer_camera.specs.OldReader.{foundFor}
 
@@ -24,7 +24,7 @@ shapeAtPlace (shaped.Is shape) place = shaped.Is shape
 shapeAtPlace (shaped.Refused number at) place = shaped.Refused number place
 
 -- columns
-abbrev pub columnsAtPlace : Columns → ℕ → Columns
+abbrev pub columnsAtPlace : Count → ℕ → Count
 columnsAtPlace (columns.Are n) place = columns.Are n
 columnsAtPlace (columns.Refused number at) place = columns.Refused number place
 

@@ -1,5 +1,5 @@
--- What axes, a quaternion and a matrix are told as to a caller in another language: a record of numbers, of which those that the answer does not have are 0
--- (document 01, Refusal numbers: "A refusal returns its number, a place and zeros"). Assumes nothing: these are definitions.
+-- What axes, a quaternion and a matrix are told as to a caller in another language: a record of numbers, of which those that the answer does not have
+-- are 0 (document 01, Refusal numbers: "A refusal returns its number, a place and zeros"). Assumes nothing: these are definitions.
 use Prim.Native.Nat.{ℕ, _+_}
 use lib.Ieee.{Float, nan}
 use mathlib.Core.List.{List, [], _∷_}

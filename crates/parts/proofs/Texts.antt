@@ -19,7 +19,7 @@ use Rattle.elements.specs.Types.{widthOf}
 use Rattle.texts.specs.Kept.{kept}
 use Rattle.texts.specs.Texts.{areWellFormed}
 use Rattle.texts.proofs.Kept.{kept-front, up-to-zero-front, up-to-zero-length}
-use Rattle.value.specs.declared.Columns.the-variants as columns
+use Rattle.value.specs.declared.Count.the-variants as columns
 use Rattle.value.specs.declared.Plan.the-variants.{Even}
 use Rattle.value.specs.Value.{Value, Outcome, readable, refused, gridded, text, texts, textOf, isQuaternions, letterPlan, planOf, valueBy, valueOf}
 use Rattle.items.specs.At.{Found, found, foundAt}

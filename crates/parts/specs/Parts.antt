@@ -12,8 +12,8 @@ use Rattle.klv.specs.declared.KLV.{KLV}
 use Rattle.klv.specs.Limits.{mostBytes}
 use Rattle.klv.specs.OneText.{oneText}
 use Rattle.texts.specs.Kept.{kept}
-use Rattle.value.specs.declared.Columns.{Columns}
-use Rattle.value.specs.declared.Columns.the-variants as columns
+use Rattle.value.specs.declared.Count.{Count}
+use Rattle.value.specs.declared.Count.the-variants as columns
 use Rattle.value.specs.Value.{Outcome, readable, refused, textOf, valueOf}
 use Rattle.items.specs.At.{Found, found, stopped}
 use Rattle.parts.specs.declared.Part.{Part}
@@ -54,12 +54,12 @@ textOfFound (stopped number place) at row = Refused number place
 textOfFound (found h payload type) at row = textIn at h payload (valueOf h payload type) row
 
 -- the same by the columns of the row: a text's columns are its kept bytes
-abbrev pub textBy : KLV → Columns → ℕ → ℕ → Part
+abbrev pub textBy : KLV → Count → ℕ → ℕ → Part
 textBy h (columns.Refused number place) at row = Refused number place
 textBy h (columns.Are n) at row = cond (oneText h) (At (at + headerLength) n) (cond (eqb (h .«data_type») (code "c")) (At (at + headerLength + row * h .size) n) (Refused refusals.outside at))
 
 -- the texts before that of a row stand in the payload, which is within the limit
-abbrev pub SmallRow : KLV → Columns → ℕ → Type 0
+abbrev pub SmallRow : KLV → Count → ℕ → Type 0
 SmallRow h (columns.Refused number place) row = Unit {0}
 SmallRow h (columns.Are n) row = h .«data_type» ≡ code "c" → row * h .size ≤ mostBytes
 

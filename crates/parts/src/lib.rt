@@ -2,7 +2,7 @@
 use klv::Cursor;
 use klv::KLV;
 use klv::wide;
-use value::Columns;
+use value::Count;
 use values::Headed;
 ghost use mathlib.Core.Path.{_≡_};
 ghost use Prim.Native.Nat.{_<_, _≤_};
@@ -29,14 +29,14 @@ pub fn bytes_at(s: &[u8], at: usize, type_at: usize) -> Part
 }
 
 // The text of a row, by the columns of that row.
-fn text_by(klv: KLV, columns: Columns, at: usize, row: usize) -> Part
+fn text_by(klv: KLV, columns: Count, at: usize, row: usize) -> Part
     requires { ⌜ at ≤ 1048576 ⌝ }
     requires { ⌜ SmallRow klv columns row ⌝ }
     ensures { λ r. ⌜ r ≡ textBy klv columns at row ⌝ }
 {
     match columns {
-        Columns::Refused { number, place } => Part::Refused { number, place },
-        Columns::Are(length) => {
+        Count::Refused { number, place } => Part::Refused { number, place },
+        Count::Are(length) => {
             let start = at + Cursor::HEADER;
             if klv.is_one_text() {
                 return Part::At { start, length };

@@ -14,7 +14,7 @@ use Rattle.custom_type.specs.Expansion.{expanded}
 use Rattle.value.specs.declared.Kind.{Kind}
 use Rattle.value.specs.declared.Grid.{Grid}
 use Rattle.value.specs.declared.Shaped.{Shaped}
-use Rattle.value.specs.declared.Columns.{Columns}
+use Rattle.value.specs.declared.Count.{Count}
 use Rattle.value.specs.Value.{Value, Outcome, readable, refused, wanting, placed, gridded, dated, reading, widthsOf, structured, structures, unknown}
 use Rattle.value.specs.Answer.{shapeIn, columnsIn, columnsByShape}
 
@@ -23,7 +23,7 @@ module _ (place row : ℕ) where
   Even o = columnsByShape (shapeIn place o) place row ≡ columnsIn place o row
 
   -- so they may be read off the shape
-  pub by-shape : (o : Outcome) {s : Shaped} {x : Columns} → Even o → s ≡ shapeIn place o → x ≡ columnsByShape s place row → x ≡ columnsIn place o row
+  pub by-shape : (o : Outcome) {s : Shaped} {x : Count} → Even o → s ≡ shapeIn place o → x ≡ columnsByShape s place row → x ≡ columnsIn place o row
   by-shape o even shape is = is ∙ ap (λ (s : Shaped). columnsByShape s place row) shape ∙ even
 
   either : (b : Bool) (x y : Outcome) → Even x → Even y → Even (cond b x y)

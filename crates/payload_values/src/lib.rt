@@ -3,7 +3,7 @@ mod grid;
 mod plan;
 
 use klv::KLV;
-use value::Columns;
+use value::Count;
 use value::Plan;
 use value::Read;
 use value::Shaped;
@@ -43,22 +43,22 @@ pub fn shape_of(place: usize, klv: KLV, payload: &[u8], type_text: &[u8]) -> Sha
 }
 
 // The columns of a row, of a value all of whose rows have as many.
-fn columns_by(shaped: Shaped, place: usize, row: usize) -> Columns
+fn columns_by(shaped: Shaped, place: usize, row: usize) -> Count
     ensures { λ r. ⌜ r ≡ columnsByShape shaped place row ⌝ }
 {
     match shaped {
-        Shaped::Refused { number, place } => Columns::Refused { number, place },
+        Shaped::Refused { number, place } => Count::Refused { number, place },
         Shaped::Is(shape) => {
             if shape.rows <= row {
-                return Columns::Refused { number: 13, place };
+                return Count::Refused { number: 13, place };
             }
-            Columns::Are(shape.columns)
+            Count::Are(shape.columns)
         }
     }
 }
 
 // The columns of a row of the same value.
-pub fn columns_of(place: usize, klv: KLV, payload: &[u8], type_text: &[u8], row: usize) -> Columns
+pub fn columns_of(place: usize, klv: KLV, payload: &[u8], type_text: &[u8], row: usize) -> Count
     ensures { λ r. ⌜ r ≡ columnsIn place (valueOf klv (now (payload .entry)) (now («type_text» .entry))) row ⌝ }
 {
     match plan::plan_of(klv, payload) {

@@ -6,7 +6,7 @@ use crate::writing::write_hex;
 use crate::writing::write_signed;
 use elements::Element;
 use rows::RowAt;
-use value::Columns;
+use value::Count;
 use value::Read;
 use value::Shaped;
 
@@ -55,7 +55,7 @@ fn write_columns(payload: &[u8], place: usize, type_place: usize, row: usize) {
 // The columns of a row; none where there is no such row.
 fn columns_of(payload: &[u8], place: usize, type_place: usize, row: usize) -> usize {
     match values::columns_at(payload, place, type_place, row) {
-        Columns::Are(columns) => columns,
+        Count::Are(columns) => columns,
         _ => 0,
     }
 }

@@ -21,7 +21,7 @@ use Rattle.texts.proofs.Kept.{up-to-zero-front, up-to-zero-length}
 use Rattle.value.specs.declared.Kind.the-variants as kind
 use Rattle.value.specs.declared.Read.the-variants as read
 use Rattle.value.specs.declared.Shaped.the-variants as shaped
-use Rattle.value.specs.declared.Columns.the-variants as columns
+use Rattle.value.specs.declared.Count.the-variants as columns
 use Rattle.dates.specs.declared.Date.{Date}
 use Rattle.dates.specs.declared.Date.the-variants.{Milliseconds}
 use Rattle.value.specs.Value.{textOf, texts, dated}

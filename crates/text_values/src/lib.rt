@@ -4,7 +4,7 @@ use elements::Element;
 use klv::KLV;
 use klv::wide;
 use klv::wider;
-use value::Columns;
+use value::Count;
 use value::Kind;
 use value::Read;
 use value::Shape;
@@ -64,17 +64,17 @@ pub fn element(place: usize, klv: KLV, payload: &[u8], row: usize, column: usize
 }
 
 // The columns of a row of several texts: the bytes that its text keeps.
-pub fn columns(place: usize, klv: KLV, payload: &[u8], row: usize) -> Columns
+pub fn columns(place: usize, klv: KLV, payload: &[u8], row: usize) -> Count
     ensures { λ r. ⌜ r ≡ columnsIn place (texts klv (now (payload .entry))) row ⌝ }
 {
     if !texts::are_utf8(payload, wide(klv.size)) {
-        return Columns::Refused { number: 7, place };
+        return Count::Refused { number: 7, place };
     }
     if wider(klv.repeat) <= row {
-        return Columns::Refused { number: 13, place };
+        return Count::Refused { number: 13, place };
     }
     let kept = row_text(klv, payload, row as u32);
-    Columns::Are(kept.len())
+    Count::Are(kept.len())
 }
 
 // The shape of several texts, with the columns of the first.

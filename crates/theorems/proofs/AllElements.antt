@@ -10,7 +10,7 @@ use Rattle.value.specs.declared.Shape.{Shape}
 use Rattle.value.specs.declared.Shaped.the-variants as shaped
 use Rattle.value.specs.Value.{valueOf}
 use Rattle.values.specs.At.{elementOfFound, shapeOfFound}
-use Rattle.all_elements.specs.declared.Elements.the-variants.{Are}
+use Rattle.value.specs.declared.Count.the-variants.{Are}
 use Rattle.element_bits.specs.Bits.{bitsRead}
 use Rattle.all_elements.specs.Laid.{LaidOfFound}
 use Rattle.all_elements.specs.Letter.{Even}

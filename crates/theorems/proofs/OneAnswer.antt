@@ -47,10 +47,8 @@ use Rattle.answers.proofs.of_expanded.Kinds as of-expanded-kinds
 use Rattle.answers.proofs.of_expanded.Reads as of-expanded-reads
 use Rattle.answers.proofs.of_date.Kinds as of-date-kinds
 use Rattle.answers.proofs.of_date.Reads as of-date-reads
-use Rattle.answers.proofs.of_columns.Kinds as of-columns-kinds
-use Rattle.answers.proofs.of_columns.Reads as of-columns-reads
-use Rattle.answers.proofs.of_elements.Kinds as of-elements-kinds
-use Rattle.answers.proofs.of_elements.Reads as of-elements-reads
+use Rattle.answers.proofs.of_count.Kinds as of-count-kinds
+use Rattle.answers.proofs.of_count.Reads as of-count-reads
 use Rattle.answers.proofs.of_found.Kinds as of-found-kinds
 use Rattle.answers.proofs.of_found.Reads as of-found-reads
 use Rattle.answers.proofs.of_stamp.Kinds as of-stamp-kinds
@@ -650,11 +648,8 @@ of-expanded κs a x y s t p q = p ∙ sym q
 pub of-date : OneResult 0 of-date-kinds.ps of-date-kinds.r of-date-reads.Learnt
 of-date κs a x y s t p q = p ∙ sym q
 
-pub of-columns : OneResult 0 of-columns-kinds.ps of-columns-kinds.r of-columns-reads.Learnt
-of-columns κs a x y s t p q = p ∙ sym q
-
-pub of-elements : OneResult 0 of-elements-kinds.ps of-elements-kinds.r of-elements-reads.Learnt
-of-elements κs a x y s t p q = p ∙ sym q
+pub of-count : OneResult 0 of-count-kinds.ps of-count-kinds.r of-count-reads.Learnt
+of-count κs a x y s t p q = p ∙ sym q
 
 pub of-found : OneResult 0 of-found-kinds.ps of-found-kinds.r of-found-reads.Learnt
 of-found κs a x y s t p q = p ∙ sym q

@@ -7,8 +7,8 @@ use Rattle.value.specs.declared.Read.{Read}
 use Rattle.value.specs.declared.Read.the-variants as read
 use Rattle.value.specs.declared.Shaped.{Shaped}
 use Rattle.value.specs.declared.Shaped.the-variants as shaped
-use Rattle.value.specs.declared.Columns.{Columns}
-use Rattle.value.specs.declared.Columns.the-variants as columns
+use Rattle.value.specs.declared.Count.{Count}
+use Rattle.value.specs.declared.Count.the-variants as columns
 use Rattle.value.specs.Value.{Outcome, readable, refused}
 
 -- the element at a row and a column; refusal 13 outside the value
@@ -22,11 +22,11 @@ shapeIn place (refused number) = shaped.Refused number place
 shapeIn place (readable v) = shaped.Is (record { kind = v .kind; rows = v .rows; columns = v .columns 0 })
 
 -- the columns of a row
-abbrev pub columnsIn : ℕ → Outcome → ℕ → Columns
+abbrev pub columnsIn : ℕ → Outcome → ℕ → Count
 columnsIn place (refused number) row = columns.Refused number place
 columnsIn place (readable v) row = cond (ltb row (v .rows)) (columns.Are (v .columns row)) (columns.Refused refusals.outside place)
 
 -- the same, read off a shape: right where each row has as many columns
-abbrev pub columnsByShape : Shaped → ℕ → ℕ → Columns
+abbrev pub columnsByShape : Shaped → ℕ → ℕ → Count
 columnsByShape (shaped.Refused number at) place row = columns.Refused number at
 columnsByShape (shaped.Is shape) place row = cond (ltb row (shape .rows)) (columns.Are (shape .columns)) (columns.Refused refusals.outside place)

@@ -29,7 +29,8 @@ pub enum Shaped {
     Refused { number: u32, place: usize },
 }
 
-pub enum Columns {
+// How many there are: the columns of a row, or all elements.
+pub enum Count {
     Are(usize),
     Refused { number: u32, place: usize },
 }

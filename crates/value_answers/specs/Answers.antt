@@ -1,5 +1,5 @@
--- What an element, a shape and an average are told as to a caller in another language: a record of numbers, of which those that the answer does not have are 0
--- (document 01, Refusal numbers: "A refusal returns its number, a place and zeros"). Assumes nothing: these are definitions.
+-- What an element, a shape and an average are told as to a caller in another language: a record of numbers, of which those that the answer does not
+-- have are 0 (document 01, Refusal numbers: "A refusal returns its number, a place and zeros"). Assumes nothing: these are definitions.
 use Prim.Native.Nat.{ℕ}
 use lib.IntN.{ℤ, pos}
 use lib.Ieee.{Float}

@@ -6,8 +6,8 @@ use Rattle.value.specs.declared.Read.{Read}
 use Rattle.value.specs.declared.Read.the-variants as read
 use Rattle.value.specs.declared.Shaped.{Shaped}
 use Rattle.value.specs.declared.Shaped.the-variants as shaped
-use Rattle.value.specs.declared.Columns.{Columns}
-use Rattle.value.specs.declared.Columns.the-variants as columns
+use Rattle.value.specs.declared.Count.{Count}
+use Rattle.value.specs.declared.Count.the-variants as columns
 use Rattle.value.specs.Value.{valueOf}
 use Rattle.value.specs.Answer.{elementIn, shapeIn, columnsIn}
 use Rattle.values.specs.declared.Headed.{Headed}
@@ -29,6 +29,6 @@ shapeOfFound (stopped number place) at = shaped.Refused number place
 shapeOfFound (found h payload type) at = shapeIn at (valueOf h payload type)
 
 -- the columns of a row of its value
-abbrev pub columnsOfFound : Found → ℕ → ℕ → Columns
+abbrev pub columnsOfFound : Found → ℕ → ℕ → Count
 columnsOfFound (stopped number place) at row = columns.Refused number place
 columnsOfFound (found h payload type) at row = columnsIn at (valueOf h payload type) row

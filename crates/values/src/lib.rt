@@ -1,7 +1,7 @@
 // Values: the shape of the value of an item at a place, and its elements by row and column.
 use items::Found;
 use klv::KLV;
-use value::Columns;
+use value::Count;
 use value::Read;
 use value::Shaped;
 ghost use mathlib.Core.Path.{_≡_};
@@ -72,11 +72,11 @@ pub fn shape_at(s: &[u8], at: usize, type_at: usize) -> Shaped
 }
 
 // The columns of a row of the value of the item at a place: of a text, its kept bytes.
-pub fn columns_at(s: &[u8], at: usize, type_at: usize, row: usize) -> Columns
+pub fn columns_at(s: &[u8], at: usize, type_at: usize, row: usize) -> Count
     ensures { λ r. ⌜ r ≡ columnsOfFound (foundAt (now (s .entry)) at «type_at») at row ⌝ }
 {
     match items::item_at(s, at, type_at) {
-        Found::Refused { number, place } => Columns::Refused { number, place },
+        Found::Refused { number, place } => Count::Refused { number, place },
         Found::Item {
             klv,
             start,

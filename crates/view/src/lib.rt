@@ -1,6 +1,6 @@
 // A view of an item: the payload that was lent, with the places that a row has. Its methods take it apart and call functions on slice and places.
 use parts::Part;
-use value::Columns;
+use value::Count;
 use value::Read;
 use value::Shaped;
 use values::Headed;
@@ -41,7 +41,7 @@ impl<'a> View<'a> {
         values::shape_at(self.payload, self.at, self.type_at)
     }
 
-    pub fn columns(self, row: usize) -> Columns
+    pub fn columns(self, row: usize) -> Count
         ensures { λ r. ⌜ r ≡ columnsOfFound (foundIn (self .entry)) (self .entry .at) row ⌝ }
     {
         values::columns_at(self.payload, self.at, self.type_at, row)

@@ -2,7 +2,7 @@
 use mathlib.Core.Path.{refl, sym, ap, _∙_, subst}
 use native.Mathlib.Omega.{arith}
 use borrow.Author.Needs.{needs}
-use Rattle.value.specs.declared.Columns.{Columns}
+use Rattle.value.specs.declared.Count.{Count}
 use Rattle.value.specs.Value.{valueOf}
 use Rattle.items.specs.At.{Found}
 use Rattle.values.specs.At.{columnsOfFound}
@@ -30,7 +30,7 @@ text-by-requires c κs =
     let h = c .before .before .klv .given .0 .0 in
     let by = by-header (a .s .now) (a .at) (a .type-at) h (sym (c .before .before .before .before .klv-at .ensures) ∙ c .before .before .klv .given .1) in
     let row = c .columns-at .ensures ∙ ap (λ (x : Found). columnsOfFound x (a .at) (a .row)) (by .is) in
-    (omega (arith, by .there .fits, by .there .within), subst (λ (x : Columns). SmallRow h x (a .row)) (sym row) (few-before h (by .payload) (by .text) (a .row) (valueOf h (by .payload) (by .text)) refl (a .at) (omega (arith, by .there .fits, by .there .within, by .there .is-data))))
+    (omega (arith, by .there .fits, by .there .within), subst (λ (x : Count). SmallRow h x (a .row)) (sym row) (few-before h (by .payload) (by .text) (a .row) (valueOf h (by .payload) (by .text)) refl (a .at) (omega (arith, by .there .fits, by .there .within, by .there .is-data))))
 
 returns : tie.Need-returns
 returns c =
@@ -44,7 +44,7 @@ returns-2 c =
     let by = by-header (a .s .now) (a .at) (a .type-at) h (sym (c .before .before .before .before .before .klv-at .ensures) ∙ c .before .before .before .klv .given .1) in
     let row = c .before .columns-at .ensures ∙ ap (λ (x : Found). columnsOfFound x (a .at) (a .row)) (by .is) in
     c .text-by .ensures
-    ∙ ap (λ (x : Columns). textBy h x (a .at) (a .row)) row
+    ∙ ap (λ (x : Count). textBy h x (a .at) (a .row)) row
     ∙ by-columns h (by .payload) (by .text) (a .row) (a .at) (valueOf h (by .payload) (by .text)) refl
     ∙ ap (λ (x : Found). textOfFound x (a .at) (a .row)) (sym (by .is))
 

@@ -19,9 +19,9 @@ use denote.Triple.Spec.{tripleOf}
 use denote.Triple.Table.{entered, cited}
 use Rattle.items.specs.At.{foundAt}
 use Rattle.values.specs.At.{columnsOfFound}
-use Rattle.value.specs.declared.Columns.{Columns}
-use Rattle.value.proofs.Columns as S
-use Rattle.value.proofs.Columns.Laws as S′
+use Rattle.value.specs.declared.Count.{Count}
+use Rattle.value.proofs.Count as S
+use Rattle.value.proofs.Count.Laws as S′
 use Rattle.values.proofs.columns_at as callee
 use Rattle.values.proofs.columns_at.Symbol as callee-def
 use Rattle.values.proofs.columns_at.Met as callee-thm
@@ -33,11 +33,11 @@ use Rattle.view.proofs.View.columns as columns
 use Rattle.view.proofs.View.columns.Statement.{statement}
 use Rattle.view.proofs.View.columns.Code as code
 
-abbrev answer : (κs : Lfts 1) → List ℕ → ℕ → ℕ → Numbers κs 1 → Columns
+abbrev answer : (κs : Lfts 1) → List ℕ → ℕ → ℕ → Numbers κs 1 → Count
 answer κs s at type ns = columnsOfFound (foundAt s at type) at (ns .0)
 
 -- that is the contract: where it is another, this line says in what
-contract-is : {M : Type 1} (𝓤 : URA M) (H : Heap 𝓤) (A : Atoms 𝓤) (mem : Memory → SProp 𝓤) (run : Routine → Fun 𝓤) (κs : Lfts 1) (a : Args columns.signature κs) (r : Columns) (e : AtExit columns.ended κs)
+contract-is : {M : Type 1} (𝓤 : URA M) (H : Heap 𝓤) (A : Atoms 𝓤) (mem : Memory → SProp 𝓤) (run : Routine → Fun 𝓤) (κs : Lfts 1) (a : Args columns.signature κs) (r : Count) (e : AtExit columns.ended κs)
     → columns.clauses 𝓤 H A mem run κs a .ensures tt r e ≡ fact 𝓤 (r ≡ answer κs (now (a .0 .payload)) (a .0 .at) (a .0 .«type_at») (a .1))
 contract-is 𝓤 H A mem run κs a r e = refl
 
