@@ -1,4 +1,4 @@
-// The ground that the other crates stand on: recursion by fuel and texts (definitions only), and big-endian numbers.
+// The ground that the other crates stand on: recursion by fuel, texts, their pieces and digits (definitions only), and big-endian numbers.
 ghost use mathlib.Core.Path.{_≡_};
 ghost use Prim.Native.Nat.{_<_, min};
 ghost use lib.ListN.{take};
