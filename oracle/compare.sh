@@ -1,15 +1,16 @@
 #!/bin/sh
 # Asks the built oracle and a program of ours the same new questions and compares: compare.sh SEED TIMES PROGRAM COMMAND [WORD ..]
 # PROGRAM is one that replays, as `replay` or `replay_rows`, or one kind of its questions, as `last` or `rows:walk`, and COMMAND runs it, as `./gpmf replay`,
-# on as many questions at once as it reads. Exit 1 at a difference, with the first ten questions whose answers differ.
+# on as many questions at once as it reads; its words hold no space, for a shell reads them again. Exit 1 at a difference, with the first ten questions whose answers differ.
 set -eu
 [ $# -ge 4 ] || { echo "usage: $0 SEED TIMES PROGRAM COMMAND [WORD ..]" >&2; exit 2; }
-here=$(cd "$(dirname "$0")" && pwd)
+here=$(CDPATH='' cd -- "$(dirname -- "$0")" && pwd)
 seed=$1 times=$2 program=$3
 shift 3
 room=$(mktemp -d)
 trap 'rm -rf "$room"' EXIT
-"$here/questions.py" --seed "$seed" --times "$times" "$program" | grep -v '^$' > "$room/questions" # an empty line has no answer
+"$here/questions.py" --seed "$seed" --times "$times" "$program" > "$room/all"
+grep -v '^$' "$room/all" > "$room/questions" # an empty line has no answer
 "$here/target/release/gpmf-oracle" < "$room/questions" > "$room/oracle"
 split -C 1048576 --filter="$*" "$room/questions" > "$room/ours"
 if cmp -s "$room/oracle" "$room/ours"; then

@@ -13,7 +13,7 @@ import subprocess
 import sys
 
 OLD_KEYS = b"GYRO ACCL GRAV WBAL ISOE SHUT MWET IORI CORI AALP SIUN MTRX SCAL STMP STNM DVNM TMPC TSMP ORIN ORIO TICK ABCD EFGH".split()
-CONTAINER_KEYS = (b"DEVC", b"STRM", b"GYRO", b"NEST")
+CONTAINER_KEYS = (b"STRM", b"GYRO", b"NEST")  # no DEVC, by which `take` would cut
 TYPES = b"bBsSlLfdqQjJcFGU?xZ"
 TYPE_TEXTS = (b"B", b"ss", b"f[3]", b"L", b"Lfs", b"c[4]B")
 NEW = b"~"  # a new item's key begins so, and no old one does
@@ -156,8 +156,8 @@ def headers(lines):
     return int(lines[0].split(" ")[3])
 
 
-def command(name, *words):
-    return os.environ[name.upper()].split() if name.upper() in os.environ else ["./gpmf", name, *words]
+def command(name):
+    return os.environ[name.upper()].split() if name.upper() in os.environ else ["./gpmf", name]
 
 
 def listings(meetings):

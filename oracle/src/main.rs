@@ -35,7 +35,6 @@ fn answer(line: &str) -> Option<String> {
         "packets" => packets(asked),
         "sett" => sett(asked),
         "udta" => udta(asked),
-        "speed" => speed(asked),
         _ => None,
     }
 }
@@ -359,28 +358,4 @@ fn udta(asked: &[&str]) -> Option<String> {
         Some((at, len)) => format!("ok {at} {len}"),
         None => "none".into(),
     })
-}
-
-/// speed PATH TURNS: seconds of one turn over a raw file, by cutting alone and by the walk of each packet
-fn speed(asked: &[&str]) -> Option<String> {
-    let [path, turns] = asked else { return None };
-    let file = std::fs::read(path).ok()?;
-    let turns = number(turns).filter(|&n| n > 0)?;
-    let began = std::time::Instant::now();
-    let mut packets = 0;
-    for _ in 0..turns { packets = std::hint::black_box(probe::cuts(std::hint::black_box(&file))).len(); }
-    let cut = began.elapsed().as_secs_f64() / turns as f64;
-    let cuts = probe::cuts(&file);
-    let began = std::time::Instant::now();
-    let mut tags = 0;
-    for _ in 0..turns {
-        tags = 0;
-        for (a, b) in &cuts {
-            if let Ok(map) = parsed(std::hint::black_box(&file[*a..*b]), false) {
-                tags += map.values().map(|m| m.len()).sum::<usize>();
-            }
-        }
-    }
-    let walk = began.elapsed().as_secs_f64() / turns as f64;
-    Some(format!("ok bytes={} packets={packets} tags={tags} cut={cut:.6} walk={walk:.6}", file.len()))
 }

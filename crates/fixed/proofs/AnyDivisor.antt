@@ -10,7 +10,7 @@ use lib.Signed.{mag, natAbs-le}
 use lib.Ieee.{Float, nan, inf, fin, Format, prec, up, down, round, add, ofInt}
 use lib.Ieee.Fits.{down-pos}
 use Rattle.fixed.specs.Distance.{Within, rounded}
-use Rattle.fixed.specs.Fixed.{exactForm, reading}
+use Rattle.fixed.specs.Fixed.{exactForm, sumIn}
 use Rattle.fixed.proofs.Difference.{over, under}
 use Rattle.fixed.proofs.Held.{range}
 use Rattle.fixed.proofs.Near.{Close, Near, Sized, near-by}
@@ -41,7 +41,7 @@ module _ (f : Format) (d : ℕ) (high : ℤ) (low j r : ℕ) (h : mag high < 2 ^
 -- ---- so the reading, whose quotient is half a unit off too
 
 pub reading-within : (f : Format) (d : ℕ) (high : ℤ) (low j : ℕ) → 0 < d → d ≤ 2 ^ prec f → low ≤ d → mag high < 2 ^ j → j ≤ prec f
-    → Within (reading f d high low) (exactForm d high low) (2 ^ j + 1) (2 ^ prec f * 2)
+    → Within (sumIn f d high low) (exactForm d high low) (2 ^ j + 1) (2 ^ prec f * 2)
 reading-within f d high low j D P l h J =
     rw (quotient-once f d low D P (le-trans l P))
     (sum-within f d high low j 1 h J (round f false low d) (at-most-one f low d D l) (half-unit f false low d 0 D (omega arith) (omega (arith, range f))))

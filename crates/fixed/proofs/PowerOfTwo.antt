@@ -8,7 +8,7 @@ use lib.Pow.{pow-pos, pow-mono}
 use lib.Ieee.{Format, prec}
 use lib.Ieee.Exact.{HasValue}
 use Rattle.fixed.specs.Distance.{rounded}
-use Rattle.fixed.specs.Fixed.{exactForm, quotient, reading}
+use Rattle.fixed.specs.Fixed.{exactForm, quotient, sumIn}
 use Rattle.fixed.proofs.Held.{held-over-power, finest}
 use Rattle.fixed.proofs.Quotient.{quotient-once}
 use Rattle.fixed.proofs.Sum.{one-rounding}
@@ -17,5 +17,5 @@ module _ (f : Format) (k low : ℕ) (K : k ≤ prec f) (l : low ≤ 2 ^ prec f) 
   pub quotient-exact : HasValue (quotient f (2 ^ k) low) false low (2 ^ k)
   quotient-exact = rw (quotient-once f (2 ^ k) low (pow-pos k) (pow-mono K) l) (held-over-power f false low k l (le-trans K (finest f)))
 
-  pub reading-once : (high : ℤ) → natAbs high ≤ 2 ^ prec f → reading f (2 ^ k) high low ≡ rounded f (exactForm (2 ^ k) high low)
+  pub reading-once : (high : ℤ) → natAbs high ≤ 2 ^ prec f → sumIn f (2 ^ k) high low ≡ rounded f (exactForm (2 ^ k) high low)
   reading-once high h = one-rounding f high (quotient f (2 ^ k) low) low (2 ^ k) h (pow-pos k) quotient-exact

@@ -4,7 +4,7 @@ use mathlib.Core.Path.{refl}
 use native.Mathlib.Omega.{arith}
 use lib.Dec.{lit<, lit≤}
 use lib.Ieee.{binary64, add, div, ofInt}
-use Rattle.fixed.specs.Fixed.{divisor31-32, exactForm, reading, q31-32, q31-32-exact}
+use Rattle.fixed.specs.Fixed.{divisor31-32, exactForm, sumIn, q31-32, q31-32-exact}
 use Rattle.fixed.specs.Laws.{WithinTwoToMinus22, Case8}
 use Rattle.fixed.proofs.AnyDivisor.{reading-within}
 use Rattle.fixed.proofs.Near.{looser}
@@ -14,7 +14,7 @@ pub within-two-to-minus-22 : WithinTwoToMinus22
 unfolding q31-32 q31-32-exact
 within-two-to-minus-22 high low h =
     let l : low ≤ divisor31-32 = omega (arith, h .unsigned) in
-    looser (reading binary64 divisor31-32 high low) (exactForm divisor31-32 high low) (2 ^ 31 + 1) (2 ^ 54) _ _ (lit< tt) (lit≤ tt)
+    looser (sumIn binary64 divisor31-32 high low) (exactForm divisor31-32 high low) (2 ^ 31 + 1) (2 ^ 54) _ _ (lit< tt) (lit≤ tt)
     (reading-within binary64 divisor31-32 high low 31 (lit< tt) (lit≤ tt) l (bounded (2 ^ 31) high (lit< tt) (lit< tt) (h .signed)) (lit≤ tt))
 
 -- by computing

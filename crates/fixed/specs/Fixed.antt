@@ -16,8 +16,8 @@ abbrev pub quotient : Format → ℕ → ℕ → Float
 quotient f divisor low = div f (ofInt f (pos low)) (ofInt f (pos divisor))
 
 -- high + low / divisor, each operation in that format
-abbrev pub reading : Format → ℕ → ℤ → ℕ → Float
-reading f divisor high low = add f (ofInt f high) (quotient f divisor low)
+abbrev pub sumIn : Format → ℕ → ℤ → ℕ → Float
+sumIn f divisor high low = add f (ofInt f high) (quotient f divisor low)
 
 -- ---- q, Q15.16
 
@@ -31,7 +31,7 @@ q15-16-exact high low = exactForm divisor15-16 high low
 
 -- "signed 16-bit part plus unsigned 16-bit part / 65536, in f32" (document 01, Values)
 unfoldable pub q15-16 : ℤ → ℕ → Float
-q15-16 high low = reading binary32 divisor15-16 high low
+q15-16 high low = sumIn binary32 divisor15-16 high low
 
 -- ---- Q, Q31.32
 
@@ -45,4 +45,4 @@ q31-32-exact high low = exactForm divisor31-32 high low
 
 -- "signed 32-bit part plus unsigned 32-bit part / 4294967295, each operation in f64" (document 01, Values)
 unfoldable pub q31-32 : ℤ → ℕ → Float
-q31-32 high low = reading binary64 divisor31-32 high low
+q31-32 high low = sumIn binary64 divisor31-32 high low

@@ -3,8 +3,8 @@
 use Prim.Native.Nat.{ℕ}
 
 -- "payload over the limit (place 0)"
-abbrev pub overLimit : ℕ
-overLimit = 1
+abbrev pub tooLong : ℕ
+tooLong = 1
 
 -- "an item's payload runs past its level's end (value reads: the payload's end)"
 abbrev pub pastEnd : ℕ

@@ -24,7 +24,7 @@ use Rattle.items.specs.declared.TypeText.the-variants as text
 use Rattle.items.specs.declared.Found.{Found}
 use Rattle.items.specs.declared.Found.the-variants as place
 use Rattle.items.specs.At as At
-use Rattle.items.specs.At.{Named, named, bad, typeOf, typeAt, typeFor, found, stopped, overIf, wholeIf, foundBy, foundAt}
+use Rattle.items.specs.At.{Named, named, bad, typeOf, typeNamedAt, typeFor, found, stopped, overIf, wholeIf, foundBy, foundAt}
 use Rattle.items.specs.Parts.{between, IsPart, textAt, textFor, typeTold, TypeInside, Begins, TypeIs, placesOf, itemTold, ItemInside, ItemIs}
 
 -- ---- the TYPE text at a place
@@ -33,26 +33,26 @@ none-named : (s : List ℕ) → IsPart 0 0 s
 none-named s = record { order = omega arith; inside = omega arith }
 
 module _ (s : List ℕ) (at : ℕ) where
-  pub type-none : at ≡ 4294967295 → TypeIs s (typeAt s at) (textAt at) (text.At 0 0)
-  unfolding typeAt
+  pub type-none : at ≡ 4294967295 → TypeIs s (typeNamedAt s at) (textAt at) (text.At 0 0)
+  unfolding typeNamedAt
   type-none e =
       let none = eq-eqb at 4294967295 e in
       record { told = sym (simp none); inside = none-named s; begins = sym (simp none) }
 
   module _ (n : at ≡ 4294967295 → ⊥) where
-    asked : typeAt s at ≡ typeOf (firstItem (drop at s))
-    unfolding typeAt
+    asked : typeNamedAt s at ≡ typeOf (firstItem (drop at s))
+    unfolding typeNamedAt
     asked = simp (ne-eqb at 4294967295 n)
 
-    pub type-by : (r : TypeText) → TypeIs s (typeOf (firstItem (drop at s))) (at + 8) r → TypeIs s (typeAt s at) (textAt at) r
+    pub type-by : (r : TypeText) → TypeIs s (typeOf (firstItem (drop at s))) (at + 8) r → TypeIs s (typeNamedAt s at) (textAt at) r
     type-by r t =
         let behind : at + 8 ≡ textAt at = sym (simp (ne-eqb at 4294967295 n)) in
         record { told = t .told ∙ sym asked; inside = t .inside; begins = subst (λ (k : ℕ). Begins k r) behind (t .begins) }
 
-    pub type-short : headerAt s at ≡ Short → TypeIs s (typeAt s at) (textAt at) text.Bad
+    pub type-short : headerAt s at ≡ Short → TypeIs s (typeNamedAt s at) (textAt at) text.Bad
     type-short e = record { told = sym (asked ∙ ap typeOf (Place.first-short s at e)); inside = tt; begins = tt }
 
-    pub type-past : headerAt s at ≡ Past → TypeIs s (typeAt s at) (textAt at) text.Bad
+    pub type-past : headerAt s at ≡ Past → TypeIs s (typeNamedAt s at) (textAt at) text.Bad
     type-past e = record { told = sym (asked ∙ ap typeOf (Place.first-past s at e)); inside = tt; begins = tt }
 
 both : (a : Bool) → (a && false) ≡ false
@@ -98,7 +98,7 @@ module _ (s : List ℕ) (at : ℕ) (h : KLV) (is-item : headerAt s at ≡ Item h
 
 -- ---- the TYPE text that an item asks for
 module _ (letter : ℕ) (s : List ℕ) (at : ℕ) where
-  pub type-asked : (r : TypeText) → letter ≡ code "?" → TypeIs s (typeAt s at) (textAt at) r → TypeIs s (typeFor letter s at) (textFor letter at) r
+  pub type-asked : (r : TypeText) → letter ≡ code "?" → TypeIs s (typeNamedAt s at) (textAt at) r → TypeIs s (typeFor letter s at) (textFor letter at) r
   type-asked r e t = rw (eq-eqb letter (code "?") e) t
 
   pub type-unasked : (letter ≡ code "?" → ⊥) → TypeIs s (typeFor letter s at) (textFor letter at) (text.At 0 0)

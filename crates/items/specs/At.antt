@@ -27,12 +27,12 @@ typeOf past = bad
 typeOf (item h payload rest) = cond (typeText h && ltb 0 (length payload)) (named (kept payload)) bad
 
 -- 4,294,967,295 names none
-unfoldable pub typeAt : List ℕ → ℕ → Named
-typeAt s at = cond (eqb at noPlace) (named []) (typeOf (firstItem (drop at s)))
+unfoldable pub typeNamedAt : List ℕ → ℕ → Named
+typeNamedAt s at = cond (eqb at noPlace) (named []) (typeOf (firstItem (drop at s)))
 
 -- only a structure asks for it
 abbrev pub typeFor : ℕ → List ℕ → ℕ → Named
-typeFor letter s at = cond (eqb letter (code "?")) (typeAt s at) (named [])
+typeFor letter s at = cond (eqb letter (code "?")) (typeNamedAt s at) (named [])
 
 -- ---- the item at a place
 
@@ -60,4 +60,4 @@ foundBy (item h (b ∷ payload) rest) s at typePlace = wholeIf (typeFor (h .«da
 
 -- 1: the payload is over the limit, at place 0
 unfoldable pub foundAt : List ℕ → ℕ → ℕ → Found
-foundAt s at typePlace = cond (ltb mostBytes (length s)) (stopped refusals.overLimit 0) (foundBy (firstItem (drop at s)) s at typePlace)
+foundAt s at typePlace = cond (ltb mostBytes (length s)) (stopped refusals.tooLong 0) (foundBy (firstItem (drop at s)) s at typePlace)

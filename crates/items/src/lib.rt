@@ -8,7 +8,7 @@ ghost use Prim.Native.Nat.{_+_};
 ghost use lib.ListN.{drop};
 ghost use Rattle.klv.specs.Item.{firstItem};
 ghost use Rattle.klv.specs.Header.{headerAt};
-ghost use Rattle.items.specs.At.{typeOf, typeAt, typeFor, foundBy, foundAt, overIf};
+ghost use Rattle.items.specs.At.{typeOf, typeNamedAt, typeFor, foundBy, foundAt, overIf};
 ghost use Rattle.items.specs.Parts.{textAt, textFor, TypeIs, ItemIs};
 
 // The place of a TYPE where none is in force.
@@ -57,7 +57,7 @@ fn type_of(klv: KLV, s: &[u8], at: usize) -> TypeText
 
 // The text of the TYPE item at a place.
 fn type_text(s: &[u8], at: usize) -> TypeText
-    ensures { λ r. ⌜ TypeIs (now (s .entry)) (typeAt (now (s .entry)) at) (textAt at) r ⌝ }
+    ensures { λ r. ⌜ TypeIs (now (s .entry)) (typeNamedAt (now (s .entry)) at) (textAt at) r ⌝ }
 {
     if at == NO_TYPE {
         return TypeText::At { start: 0, end: 0 };

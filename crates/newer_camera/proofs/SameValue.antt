@@ -8,7 +8,7 @@ use lib.Dec.{ltb}
 use Rattle.reading.specs.Record.{Record}
 use Rattle.value.specs.declared.Read.the-variants as read
 use Rattle.value.specs.declared.Count.the-variants as columns
-use Rattle.value.specs.Value.{Outcome, readable, refused, valueOf}
+use Rattle.value.specs.Value.{ValueOutcome, readable, refused, valueOf}
 use Rattle.value.specs.Answer.{elementIn, shapeIn, columnsIn}
 use Rattle.newer_camera.specs.PutIn.{PutIn}
 use Rattle.newer_camera.specs.Rows.{moved}
@@ -17,7 +17,7 @@ use Rattle.newer_camera.specs.SameValue.{elementAtPlace, shapeAtPlace, c
 
 -- one value asked for at two places
 module _ (at place : ℕ) where
-  element-told : (o : Outcome) (row column : ℕ) → elementIn place o row column ≡ elementAtPlace (elementIn at o row column) place
+  element-told : (o : ValueOutcome) (row column : ℕ) → elementIn place o row column ≡ elementAtPlace (elementIn at o row column) place
   element-told (refused number) row column = refl
   element-told (readable v) row column = go (ltb row (v .rows) && ltb column (v .columns row))
     where
@@ -25,11 +25,11 @@ module _ (at place : ℕ) where
       go true = refl
       go false = refl
 
-  shape-told : (o : Outcome) → shapeIn place o ≡ shapeAtPlace (shapeIn at o) place
+  shape-told : (o : ValueOutcome) → shapeIn place o ≡ shapeAtPlace (shapeIn at o) place
   shape-told (refused number) = refl
   shape-told (readable v) = refl
 
-  columns-told : (o : Outcome) (row : ℕ) → columnsIn place o row ≡ columnsAtPlace (columnsIn at o row) place
+  columns-told : (o : ValueOutcome) (row : ℕ) → columnsIn place o row ≡ columnsAtPlace (columnsIn at o row) place
   columns-told (refused number) row = refl
   columns-told (readable v) row = go (ltb row (v .rows))
     where
@@ -46,7 +46,7 @@ kept-value {r = r} {now = now} k =
       columns = λ row. rw (k .value-now, k .value-before) (columns-told (r .place) (now .place) value row);
     }
   where
-    value : Outcome
+    value : ValueOutcome
     value = valueOf (r .content .header) (r .content .payload) (textFor (r .content .header) (r .type))
 
 -- OF EACH OLD ROW of a payload that is accepted with new items

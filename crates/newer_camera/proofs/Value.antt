@@ -34,7 +34,7 @@ module _ (s : List ℕ) (within : length s ≤ 1048576) where
 
   -- the TYPE in force is the text named by its place
   named-there : (t : TypeInForce) → InForceStands s t → (h : KLV) → typeFor (h .«data_type») s (typePlace t) ≡ named (textFor h t)
-  unfolding At.typeAt
+  unfolding At.typeNamedAt
   named-there noType stands h = both (eqb (h .«data_type») (code "?"))
     where
       both : (b : Bool) → cond b (named []) (named []) ≡ named (cond b [] [])
@@ -48,10 +48,10 @@ module _ (s : List ℕ) (within : length s ≤ 1048576) where
       some : 0 < length text
       some = let l = long at (stands .header) text (stands .item) in let n = stands .not-empty in omega arith
 
-      is : At.typeAt s at ≡ named (kept text)
+      is : At.typeNamedAt s at ≡ named (kept text)
       is = rw (ne-eqb at 4294967295 at-small, first at (stands .header) text (stands .item), stands .one-text, lt-ltb 0 (length text) some)
 
-      go : (b : Bool) → cond b (At.typeAt s at) (named []) ≡ named (cond b (kept text) [])
+      go : (b : Bool) → cond b (At.typeNamedAt s at) (named []) ≡ named (cond b (kept text) [])
       go true = is
       go false = refl
 

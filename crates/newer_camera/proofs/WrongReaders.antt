@@ -31,8 +31,8 @@ onRows f (accepted rs headers) = f rs
 onRows f (refused why at) = refused why at
 
 -- the right reading, with something else made of its rows
-abbrev pub reading : (List Record → Outcome) → List ℕ → ℕ → Outcome
-reading f s room = onRows f (readingOf false s room)
+abbrev pub readingWith : (List Record → Outcome) → List ℕ → ℕ → Outcome
+readingWith f s room = onRows f (readingOf false s room)
 
 -- accepted, with other rows
 abbrev pub made : (List Record → List Record) → List Record → Outcome
@@ -129,12 +129,12 @@ groupOfScale r = cond (eqb (r .content .header .key) (key "SCAL")) (groupKey (r 
 
 -- THEY ARE SHUT OUT
 pub record ShutOut : Type 0 where
-  pub refusing-out : MeetsNewerCameras false (reading refusing) → ⊥
-  pub leaving-out : MeetsNewerCameras false (reading (made leavingOut)) → ⊥
+  pub refusing-out : MeetsNewerCameras false (readingWith refusing) → ⊥
+  pub leaving-out : MeetsNewerCameras false (readingWith (made leavingOut)) → ⊥
   pub ending-out : MeetsNewerCameras false ending → ⊥
-  pub counting-out : MeetsNewerCameras false (reading (made (counting 0))) → ⊥
+  pub counting-out : MeetsNewerCameras false (readingWith (made (counting 0))) → ⊥
   pub by-first-out : MeetsNewerCameras false byFirst → ⊥
-  pub forgetting-out : MeetsNewerCameras false (reading (made forgetting)) → ⊥
+  pub forgetting-out : MeetsNewerCameras false (readingWith (made forgetting)) → ⊥
   pub not-forced-out : MeetsNewerCameras true (readingOf false) → ⊥  -- one that names groups although one is forced
 
 pub shut-out : ShutOut
@@ -142,10 +142,10 @@ unfolding fix run found tags firstItem itemsOf oneText typeText lastItem roleOf 
 shut-out =
     record {
       refusing-out = λ meets. meets twelve newer in-twelve 4 _ _ refl .met 4;
-      leaving-out = shows false (reading (made leavingOut)) in-twelve 4 _ _ _ _ (λ (r : Record). 1) refl refl (λ z. omega arith);
+      leaving-out = shows false (readingWith (made leavingOut)) in-twelve 4 _ _ _ _ (λ (r : Record). 1) refl refl (λ z. omega arith);
       ending-out = shows false ending in-cushioned 3 _ _ _ _ (λ (r : Record). 1) refl refl (λ z. omega arith);
-      counting-out = shows false (reading (made (counting 0))) in-described 3 _ _ _ _ (λ (r : Record). r .content .depth) refl refl (λ z. omega arith);
+      counting-out = shows false (readingWith (made (counting 0))) in-described 3 _ _ _ _ (λ (r : Record). r .content .depth) refl refl (λ z. omega arith);
       by-first-out = shows false byFirst in-twelve 4 _ _ _ _ groupOfScale refl refl (λ z. omega arith);
-      forgetting-out = shows false (reading (made forgetting)) in-described 3 _ _ _ _ (λ (r : Record). typePlace (r .type)) refl refl (λ z. omega arith);
+      forgetting-out = shows false (readingWith (made forgetting)) in-described 3 _ _ _ _ (λ (r : Record). typePlace (r .type)) refl refl (λ z. omega arith);
       not-forced-out = shows true (readingOf false) in-twelve 4 _ _ _ _ (λ (r : Record). groupKey (r .content .group)) refl refl (λ z. omega arith);
     }

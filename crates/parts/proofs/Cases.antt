@@ -12,7 +12,7 @@ use Rattle.texts.specs.Utf8.{wellFormed, table}
 use Rattle.texts.specs.Texts.{chunks, areWellFormed}
 use Rattle.values.specs.declared.Headed.the-variants as headed
 use Rattle.value.specs.Value.{kindOf, isQuaternions, letterPlan, planOf}
-use Rattle.items.specs.At.{typeAt, foundAt}
+use Rattle.items.specs.At.{typeNamedAt, foundAt}
 use Rattle.values.specs.At.{klvOfFound}
 use Rattle.parts.specs.declared.Part.{Part}
 use Rattle.parts.specs.declared.Part.the-variants.{At, Refused}
@@ -69,7 +69,7 @@ cases =
     ∷ []
 
 pub as-defined : map comes cases ≡ map says cases
-unfolding fix run foundAt typeAt firstItem planOf isQuaternions widthOf oneText typeText letterPlan kindOf wellFormed table chunks areWellFormed rowText
+unfolding fix run foundAt typeNamedAt firstItem planOf isQuaternions widthOf oneText typeText letterPlan kindOf wellFormed table chunks areWellFormed rowText
 as-defined = refl
 
 -- the second text's bytes; a header

@@ -21,7 +21,7 @@ use Rattle.texts.specs.Texts.{areWellFormed}
 use Rattle.texts.proofs.Kept.{kept-front, up-to-zero-front, up-to-zero-length}
 use Rattle.value.specs.declared.Count.the-variants as columns
 use Rattle.value.specs.declared.Plan.the-variants.{Even}
-use Rattle.value.specs.Value.{Value, Outcome, readable, refused, gridded, text, texts, textOf, isQuaternions, letterPlan, planOf, valueBy, valueOf}
+use Rattle.value.specs.Value.{Value, ValueOutcome, readable, refused, gridded, text, texts, textOf, isQuaternions, letterPlan, planOf, valueBy, valueOf}
 use Rattle.items.specs.At.{Found, found, foundAt}
 use Rattle.value.specs.Answer.{columnsIn}
 use Rattle.parts.specs.declared.Part.{Part}
@@ -69,11 +69,11 @@ module _ (h : KLV) (at row n : ℕ) where
 
 -- ---- the rows of texts, and the columns of each
 module _ (h : KLV) (payload type : List ℕ) (row : ℕ) where
-  abbrev value : Outcome
+  abbrev value : ValueOutcome
   value = valueOf h payload type
 
   -- so many rows, and so many columns in this one, where the value is readable
-  abbrev Has : ℕ → ℕ → Outcome → Type 0
+  abbrev Has : ℕ → ℕ → ValueOutcome → Type 0
   Has rows n (refused number) = Unit {0}
   Has rows n (readable v) = (v .rows ≡ rows) × (v .columns row ≡ n)
 
@@ -92,7 +92,7 @@ module _ (h : KLV) (payload type : List ℕ) (row : ℕ) where
       (has-if (h .repeat) (length (textOf h payload row)) 7 _ (refl, refl) (areWellFormed (h .size) payload))
 
   -- the texts before that of a row are no more than the payload
-  pub few-before : (o : Outcome) → value ≡ o → (at : ℕ) → dataLen h ≤ 1048576 → SmallRow h (columnsIn at o row) row
+  pub few-before : (o : ValueOutcome) → value ≡ o → (at : ℕ) → dataLen h ≤ 1048576 → SmallRow h (columnsIn at o row) row
   few-before (refused number) e at most = tt
   few-before (readable v) e at most = go (ltb row (v .rows)) refl
     where
@@ -126,7 +126,7 @@ module _ (h : KLV) (payload type : List ℕ) (row : ℕ) where
         rw (t, k) (ap (At (at + 8 + row * h .size)) n)
     one-part false false t k v e = rw (t, k)
 
-    pub by-columns : (o : Outcome) → value ≡ o → textBy h (columnsIn at o row) at row ≡ textIn at h payload o row
+    pub by-columns : (o : ValueOutcome) → value ≡ o → textBy h (columnsIn at o row) at row ≡ textIn at h payload o row
     by-columns (refused number) e = refl
     by-columns (readable v) e = go (ltb row (v .rows))
       where
@@ -195,7 +195,7 @@ pub record TextIs (s : List ℕ) (at row : ℕ) (v : Value) (p : Part) (bytes : 
 pub text-is : (s : List ℕ) (at type : ℕ) (h : KLV) (payload text : List ℕ) → foundAt s at type ≡ found h payload text → (v : Value) → valueOf h payload text ≡ readable v
     → (row before : ℕ) (bytes : List ℕ) → row < v .rows → rowText h payload row ≡ Parts.text before bytes → TextIs s at row v (textOfFound (foundAt s at type) at row) bytes
 text-is s at type h payload text e v r row before bytes inside t =
-    let told : textOfFound (foundAt s at type) at row ≡ At (at + 8 + before) (length bytes) = ap (λ (f : Found). textOfFound f at row) e ∙ ap (λ (o : Outcome). textIn at h payload o row) r ∙ rw (lt-ltb row (v .rows) inside, t) in
+    let told : textOfFound (foundAt s at type) at row ≡ At (at + 8 + before) (length bytes) = ap (λ (f : Found). textOfFound f at row) e ∙ ap (λ (o : ValueOutcome). textIn at h payload o row) r ∙ rw (lt-ltb row (v .rows) inside, t) in
     record {
       cut = ap (λ (p : Part). Parts.cut p s) told ∙ text-stands h payload row before bytes s at (stands s at type h payload text e) t;
       columns = columns-are h payload row before bytes text v r t;

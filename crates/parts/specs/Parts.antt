@@ -14,7 +14,7 @@ use Rattle.klv.specs.OneText.{oneText}
 use Rattle.texts.specs.Kept.{kept}
 use Rattle.value.specs.declared.Count.{Count}
 use Rattle.value.specs.declared.Count.the-variants as columns
-use Rattle.value.specs.Value.{Outcome, readable, refused, textOf, valueOf}
+use Rattle.value.specs.Value.{ValueOutcome, readable, refused, textOf, valueOf}
 use Rattle.items.specs.At.{Found, found, stopped}
 use Rattle.parts.specs.declared.Part.{Part}
 use Rattle.parts.specs.declared.Part.the-variants.{At, Refused}
@@ -44,7 +44,7 @@ partOf (text before bytes) at = At (at + headerLength + before) (length bytes)
 partOf none at = Refused refusals.outside at
 
 -- the refusals of the value come first; 13 for a row outside
-abbrev pub textIn : ℕ → KLV → List ℕ → Outcome → ℕ → Part
+abbrev pub textIn : ℕ → KLV → List ℕ → ValueOutcome → ℕ → Part
 textIn at h payload (refused number) row = Refused number at
 textIn at h payload (readable v) row = cond (ltb row (v .rows)) (partOf (rowText h payload row) at) (Refused refusals.outside at)
 

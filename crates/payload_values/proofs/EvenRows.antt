@@ -15,18 +15,18 @@ use Rattle.value.specs.declared.Kind.{Kind}
 use Rattle.value.specs.declared.Grid.{Grid}
 use Rattle.value.specs.declared.Shaped.{Shaped}
 use Rattle.value.specs.declared.Count.{Count}
-use Rattle.value.specs.Value.{Value, Outcome, readable, refused, wanting, placed, gridded, dated, reading, widthsOf, structured, structures, unknown}
+use Rattle.value.specs.Value.{Value, ValueOutcome, readable, refused, wanting, placed, gridded, dated, columnLetters, widthsOf, structured, structures, unknown}
 use Rattle.value.specs.Answer.{shapeIn, columnsIn, columnsByShape}
 
 module _ (place row : ℕ) where
-  abbrev Even : Outcome → Type 0
+  abbrev Even : ValueOutcome → Type 0
   Even o = columnsByShape (shapeIn place o) place row ≡ columnsIn place o row
 
   -- so they may be read off the shape
-  pub by-shape : (o : Outcome) {s : Shaped} {x : Count} → Even o → s ≡ shapeIn place o → x ≡ columnsByShape s place row → x ≡ columnsIn place o row
+  pub by-shape : (o : ValueOutcome) {s : Shaped} {x : Count} → Even o → s ≡ shapeIn place o → x ≡ columnsByShape s place row → x ≡ columnsIn place o row
   by-shape o even shape is = is ∙ ap (λ (s : Shaped). columnsByShape s place row) shape ∙ even
 
-  either : (b : Bool) (x y : Outcome) → Even x → Even y → Even (cond b x y)
+  either : (b : Bool) (x y : ValueOutcome) → Even x → Even y → Even (cond b x y)
   either true x y p q = p
   either false x y p q = q
 
@@ -55,5 +55,5 @@ module _ (place row : ℕ) where
   pub structure-even : (type : List ℕ) (h : KLV) (payload : List ℕ) → Even (structures type h payload)
   structure-even [] h payload = grid-even unknown payload
   structure-even (c ∷ type) h payload =
-      either (leb (length (expanded (c ∷ type))) 256) (structured (reading (expanded (c ∷ type))) h payload) (refused 8)
-      (structured-even (reading (expanded (c ∷ type))) h payload) refl
+      either (leb (length (expanded (c ∷ type))) 256) (structured (columnLetters (expanded (c ∷ type))) h payload) (refused 8)
+      (structured-even (columnLetters (expanded (c ∷ type))) h payload) refl

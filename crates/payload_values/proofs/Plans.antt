@@ -14,7 +14,7 @@ use Rattle.elements.specs.Types.{widthOf}
 use Rattle.value.specs.declared.Grid.{Grid}
 use Rattle.value.specs.declared.Plan.{Plan}
 use Rattle.value.specs.declared.Plan.the-variants.{Even}
-use Rattle.value.specs.Value.{Outcome, isQuaternions, quaternions, numbers, text, planOf, valueBy, valueOf}
+use Rattle.value.specs.Value.{ValueOutcome, isQuaternions, quaternions, numbers, text, planOf, valueBy, valueOf}
 use Rattle.payload_values.specs.Small.{Counted, SmallGrid, LetterPlanned, Planned}
 
 -- a 16-bit repeat, a byte's worth of columns and a letter of 8 bytes at most
@@ -51,6 +51,6 @@ module _ (h : KLV) (payload : List ℕ) where
       plan-letter r t s = record { is = s .is ∙ sym (simp (q, none, t)); counted = s .counted }
 
 -- what the plan's own answer is, the value's is
-pub by-plan : {A : Type 0} (answer : Outcome → A) (h : KLV) (payload type : List ℕ) {r p : Plan} {x : A} → Planned h payload r → r ≡ p
+pub by-plan : {A : Type 0} (answer : ValueOutcome → A) (h : KLV) (payload type : List ℕ) {r p : Plan} {x : A} → Planned h payload r → r ≡ p
     → x ≡ answer (valueBy p h payload type) → x ≡ answer (valueOf h payload type)
 by-plan answer h payload type s e is = is ∙ ap (λ (p : Plan). answer (valueBy p h payload type)) (sym e ∙ s .is)

@@ -20,7 +20,7 @@ use Rattle.reading.specs.Last.{lastItem, lastReading}
 use Rattle.reading.specs.Record.{numbers, noPlace}
 use Rattle.reading.specs.Walk.{roleOf, itemOutcome, walk, readingOf}
 use Rattle.reading.specs.Front.{madeBefore, recordsBefore}
-use Rattle.reading.specs.Answer.{Answer, rows, noItem, theItem, refusal, answer, lastAnswer}
+use Rattle.reading.specs.Answer.{Answer, rows, noLastItem, theItem, refusal, answer, lastAnswer}
 
 -- ---- payloads
 
@@ -90,7 +90,7 @@ abbrev pub cases : List Case
 cases =
     -- 1
     reads [] false (rows [] 0)
-    ∷ chains [] noItem
+    ∷ chains [] noLastItem
     -- 2
     ∷ reads seven false (rows [] 0)
     ∷ chains seven (refusal 3 0)

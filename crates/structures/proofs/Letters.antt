@@ -10,27 +10,27 @@ use lib.Dec.{eqb, ltb}
 use lib.ListN.{length, take, drop, getD, drop-of-length-le}
 use lib.Seq.{drop-cons}
 use Rattle.elements.specs.Types.{widthOf}
-use Rattle.value.specs.Value.{reading, widthsOf}
+use Rattle.value.specs.Value.{columnLetters, widthsOf}
 
-reading-cons : (l : ℕ) (s : List ℕ) → reading (l ∷ s) ≡ cond (eqb (widthOf l) 0) (reading s) (l ∷ reading s)
-unfolding reading
+reading-cons : (l : ℕ) (s : List ℕ) → columnLetters (l ∷ s) ≡ cond (eqb (widthOf l) 0) (columnLetters s) (l ∷ columnLetters s)
+unfolding columnLetters
 reading-cons l s = refl
 
 -- past the last letter
-pub none-left : (letters : List ℕ) (i : ℕ) → length letters ≤ i → reading (drop i letters) ≡ []
-unfolding reading
-none-left letters i h = ap reading (drop-of-length-le letters {i = i} h)
+pub none-left : (letters : List ℕ) (i : ℕ) → length letters ≤ i → columnLetters (drop i letters) ≡ []
+unfolding columnLetters
+none-left letters i h = ap columnLetters (drop-of-length-le letters {i = i} h)
 
 module _ (letters : List ℕ) (i : ℕ) (inside : i < length letters) (w : ℕ) (is-width : w ≡ widthOf (getD letters i 0)) where
   abbrev here : List ℕ
-  here = reading (drop i letters)
+  here = columnLetters (drop i letters)
 
   abbrev later : List ℕ
-  later = reading (drop (i + 1) letters)
+  later = columnLetters (drop (i + 1) letters)
 
   first : here ≡ cond (eqb w 0) later (getD letters i 0 ∷ later)
   first =
-      ap reading (drop-cons letters i 0 inside)
+      ap columnLetters (drop-cons letters i 0 inside)
       ∙ reading-cons (getD letters i 0) (drop (suc i) letters)
       ∙ rw (← is-width, ← add-one i)
 

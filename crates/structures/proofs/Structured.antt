@@ -19,7 +19,7 @@ use Rattle.value.specs.declared.Read.the-variants as read
 use Rattle.value.specs.declared.Shaped.the-variants as shaped
 use Rattle.structures.specs.declared.Row.{Row}
 use Rattle.structures.specs.declared.Letter.{Letter}
-use Rattle.value.specs.Value.{refused, reading, widthsOf, structured, structures}
+use Rattle.value.specs.Value.{refused, columnLetters, widthsOf, structured, structures}
 use Rattle.value.specs.Answer.{elementIn, shapeIn}
 use Rattle.structures.specs.Row.{RowIs, LetterIs}
 
@@ -32,7 +32,7 @@ counted rows row width more r k w m =
 
 module _ (h : KLV) (payload letters : List ℕ) (place rows : ℕ) (all : Row) (is-rows : rows ≡ h .repeat) (is-row : RowIs letters all) where
   abbrev wanted : ℕ
-  wanted = h .repeat * widthsOf (reading letters)
+  wanted = h .repeat * widthsOf (columnLetters letters)
 
   same : rows * all .width ≡ wanted
   same = λ i. is-rows i * is-row .width i
@@ -41,32 +41,32 @@ module _ (h : KLV) (payload letters : List ℕ) (place rows : ℕ) (all : Row) (
     too-few : leb wanted (length payload) ≡ false
     too-few = lt-leb wanted (length payload) (omega (arith, same))
 
-    pub element-short : (row column : ℕ) → read.Refused 6 place ≡ elementIn place (structured (reading letters) h payload) row column
+    pub element-short : (row column : ℕ) → read.Refused 6 place ≡ elementIn place (structured (columnLetters letters) h payload) row column
     element-short row column = simp too-few
 
-    pub shape-short : shaped.Refused 6 place ≡ shapeIn place (structured (reading letters) h payload)
+    pub shape-short : shaped.Refused 6 place ≡ shapeIn place (structured (columnLetters letters) h payload)
     shape-short = simp too-few
 
   module _ (whole : rows * all .width ≤ length payload) where
     enough : leb wanted (length payload) ≡ true
     enough = le-leb wanted (length payload) (omega (arith, same))
 
-    pub shape-whole : shaped.Is (record { kind = kind.Structures; rows = rows; columns = all .columns }) ≡ shapeIn place (structured (reading letters) h payload)
+    pub shape-whole : shaped.Is (record { kind = kind.Structures; rows = rows; columns = all .columns }) ≡ shapeIn place (structured (columnLetters letters) h payload)
     shape-whole = (λ i. shaped.Is (record { kind = kind.Structures; rows = is-rows i; columns = is-row .columns i })) ∙ sym (simp enough)
 
-    pub no-row : (row column : ℕ) → rows ≤ row → read.Refused 13 place ≡ elementIn place (structured (reading letters) h payload) row column
+    pub no-row : (row column : ℕ) → rows ≤ row → read.Refused 13 place ≡ elementIn place (structured (columnLetters letters) h payload) row column
     no-row row column k = simp (enough, le-ltb row (h .repeat) (omega arith))
 
-    pub no-column : (row column : ℕ) → row < rows → all .columns ≤ column → read.Refused 13 place ≡ elementIn place (structured (reading letters) h payload) row column
+    pub no-column : (row column : ℕ) → row < rows → all .columns ≤ column → read.Refused 13 place ≡ elementIn place (structured (columnLetters letters) h payload) row column
     no-column row column k l =
-        simp (enough, lt-ltb row (h .repeat) (omega arith), le-ltb column (length (reading letters)) (omega (arith, is-row .columns)))
+        simp (enough, lt-ltb row (h .repeat) (omega arith), le-ltb column (length (columnLetters letters)) (omega (arith, is-row .columns)))
 
     pub in-row : (row column : ℕ) (its : Letter) (x : Element) → row < rows → column < all .columns → LetterIs letters column its
         → x ≡ elementAt payload (row * all .width + its .before) (its .letter)
-        → read.Is x ≡ elementIn place (structured (reading letters) h payload) row column
+        → read.Is x ≡ elementIn place (structured (columnLetters letters) h payload) row column
     in-row row column its x k l is e =
         ap read.Is (e ∙ (λ i. elementAt payload (row * is-row .width i + is .before i) (is .letter i)))
-        ∙ sym (simp (enough, lt-ltb row (h .repeat) (omega arith), lt-ltb column (length (reading letters)) (omega (arith, is-row .columns))))
+        ∙ sym (simp (enough, lt-ltb row (h .repeat) (omega arith), lt-ltb column (length (columnLetters letters)) (omega (arith, is-row .columns))))
 
 -- ---- a TYPE text written out
 
@@ -85,6 +85,6 @@ module _ (h : KLV) (payload : List ℕ) where
   no-shape place = simp (le-leb 0 (length payload) (omega arith))
 
   pub with-type : (type : List ℕ) → (length type ≡ 0 → ⊥)
-      → structures type h payload ≡ cond (fits (expanded type)) (structured (reading (expanded type)) h payload) (refused 8)
+      → structures type h payload ≡ cond (fits (expanded type)) (structured (columnLetters (expanded type)) h payload) (refused 8)
   with-type [] n = absurd (n refl)
   with-type (c ∷ type) n = refl

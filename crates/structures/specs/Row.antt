@@ -5,16 +5,16 @@ use mathlib.Core.List.{List}
 use lib.ListN.{length, take, getD}
 use Rattle.structures.specs.declared.Row.{Row}
 use Rattle.structures.specs.declared.Letter.{Letter}
-use Rattle.value.specs.Value.{reading, widthsOf}
+use Rattle.value.specs.Value.{columnLetters, widthsOf}
 
 -- a row of letters: its columns, and the bytes that they read
 pub record RowIs (letters : List ℕ) (r : Row) : Type 0 where
-  pub columns : r .columns ≡ length (reading letters)
-  pub width : r .width ≡ widthsOf (reading letters)
+  pub columns : r .columns ≡ length (columnLetters letters)
+  pub width : r .width ≡ widthsOf (columnLetters letters)
   pub small : r .width ≤ 2048
 
 -- a column of a row of letters: its own letter, and the bytes before it
 pub record LetterIs (letters : List ℕ) (column : ℕ) (r : Letter) : Type 0 where
-  pub letter : r .letter ≡ getD (reading letters) column 0
-  pub before : r .before ≡ widthsOf (take column (reading letters))
+  pub letter : r .letter ≡ getD (columnLetters letters) column 0
+  pub before : r .before ≡ widthsOf (take column (columnLetters letters))
   pub small : r .before ≤ 2048

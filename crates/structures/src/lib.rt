@@ -11,7 +11,7 @@ ghost use mathlib.Core.Bool.{cond, _&&_};
 ghost use Prim.Native.Nat.{_≤_, _<_};
 ghost use lib.Dec.{eqb, ltb};
 ghost use lib.ListN.{length};
-ghost use Rattle.value.specs.Value.{reading, structured, structures};
+ghost use Rattle.value.specs.Value.{columnLetters, structured, structures};
 ghost use Rattle.value.specs.Answer.{elementIn, shapeIn};
 ghost use Rattle.structures.specs.Row.{RowIs, LetterIs};
 
@@ -93,7 +93,7 @@ fn element_by(
     column: usize,
 ) -> Read
     requires { ⌜ length (now letters) ≤ 256 ⌝ }
-    ensures { λ r. ⌜ r ≡ elementIn place (structured (reading (now (letters .entry))) klv (now (payload .entry))) row column ⌝ }
+    ensures { λ r. ⌜ r ≡ elementIn place (structured (columnLetters (now (letters .entry))) klv (now (payload .entry))) row column ⌝ }
 {
     let rows = wider(klv.repeat);
     let all = row_of(letters);
@@ -112,7 +112,7 @@ fn element_by(
 
 fn shape_by(place: usize, klv: KLV, payload: &[u8], letters: &[u8]) -> Shaped
     requires { ⌜ length (now letters) ≤ 256 ⌝ }
-    ensures { λ r. ⌜ r ≡ shapeIn place (structured (reading (now (letters .entry))) klv (now (payload .entry))) ⌝ }
+    ensures { λ r. ⌜ r ≡ shapeIn place (structured (columnLetters (now (letters .entry))) klv (now (payload .entry))) ⌝ }
 {
     let rows = wider(klv.repeat);
     let all = row_of(letters);

@@ -25,7 +25,7 @@ use Rattle.rows.specs.declared.Found.{Found}
 use Rattle.rows.specs.declared.Found.the-variants as row
 use Rattle.rows.proofs.Laid.{has-row}
 use Rattle.rows.proofs.Search.{Says, lookup-says, too-many}
-use Rattle.tagged.specs.Tagged.{itemBy, itemAt, itemOf, taggedOf, oneNumber}
+use Rattle.tagged.specs.Tagged.{itemBy, taggedAt, itemOf, taggedOf, oneNumber}
 use Rattle.tagged.specs.declared.Tagged.{Tagged}
 use Rattle.tagged.specs.declared.Tagged.the-variants.{Is, Nothing, Refused}
 
@@ -97,8 +97,8 @@ module _ (s rows : List ℕ) (count groupKind groupKey tag key : ℕ) where
     first-there p (item k [] rest) there e = absurd (not-refused e)
     first-there p (item k (b ∷ payload) rest) there e = type-there p k (b ∷ payload) (typeFor (k .«data_type») s 4294967295) there e
 
-    header-there : (p : ℕ) → itemAt s p ≡ Is h place → headerAt s place ≡ header.Item h
-    unfolding itemAt foundAt
+    header-there : (p : ℕ) → taggedAt s p ≡ Is h place → headerAt s place ≡ header.Item h
+    unfolding taggedAt foundAt
     header-there p = go (ltb 1048576 (length s))
       where
         go : (b : Bool) → itemBy (klvOfFound (cond b (stopped 1 0) (foundBy (firstItem (drop p s)) s p 4294967295))) p ≡ Is h place → headerAt s place ≡ header.Item h

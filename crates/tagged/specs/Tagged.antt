@@ -26,18 +26,18 @@ itemBy (headed.Is h) place = Is h place
 itemBy (headed.Refused number at) place = Refused number at
 
 -- the item at a place that a row names: 12 and 2 as for its value, for which no TYPE is in force
-unfoldable pub itemAt : List ℕ → ℕ → Tagged
-itemAt s place = itemBy (klvOfFound (foundAt s place noPlace)) place
+unfoldable pub taggedAt : List ℕ → ℕ → Tagged
+taggedAt s place = itemBy (klvOfFound (foundAt s place noPlace)) place
 
 -- by what a lookup found
 abbrev pub itemOf : List ℕ → List ℕ → Found → Tagged
-itemOf s rows (row.At n) = itemAt s (rowOf rows n .place)
+itemOf s rows (row.At n) = taggedAt s (rowOf rows n .place)
 itemOf s rows row.Nothing = Nothing
 itemOf s rows (row.Refused number place) = Refused number place
 
 -- THE ITEM of a group and a tag; 1 comes first: "payload over the limit (place 0)"
 unfoldable pub taggedOf : List ℕ → List ℕ → ℕ → ℕ → ℕ → ℕ → ℕ → Tagged
-taggedOf s rows count groupKind groupKey tag key = cond (ltb mostBytes (length s)) (Refused refusals.overLimit 0) (itemOf s rows (lookupOf groupKind groupKey tag key rows count))
+taggedOf s rows count groupKind groupKey tag key = cond (ltb mostBytes (length s)) (Refused refusals.tooLong 0) (itemOf s rows (lookupOf groupKind groupKey tag key rows count))
 
 -- ONE NUMBER of a letter: "With n = size / width rounded down: repeat 1 and n 1 is single" (document 01, Values); by type, size and repeat alone, so that
 -- `s` under CORI or IORI, which is quaternions, may be one too

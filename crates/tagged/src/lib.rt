@@ -6,7 +6,7 @@ use rows::Row;
 use rows::RowAt;
 use values::Headed;
 ghost use mathlib.Core.Path.{_≡_};
-ghost use Rattle.tagged.specs.Tagged.{itemAt, taggedOf, oneNumber};
+ghost use Rattle.tagged.specs.Tagged.{taggedAt, taggedOf, oneNumber};
 
 // What a group has of a tag.
 pub enum Tagged {
@@ -21,7 +21,7 @@ const TOO_LONG: u32 = 1;
 
 // The item at a place that a row names.
 fn item_at(s: &[u8], place: u32) -> Tagged
-    ensures { λ r. ⌜ r ≡ itemAt (now (s .entry)) place ⌝ }
+    ensures { λ r. ⌜ r ≡ taggedAt (now (s .entry)) place ⌝ }
 {
     match values::klv_at(s, place as usize, items::NO_TYPE) {
         Headed::Is(klv) => Tagged::Is { klv, place },

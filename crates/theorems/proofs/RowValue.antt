@@ -23,7 +23,7 @@ use Rattle.custom_type.specs.Expansion.{expanded}
 use Rattle.value.specs.declared.Plan.{Plan}
 use Rattle.value.specs.declared.Plan.the-variants as plan
 use Rattle.value.specs.declared.Grid.{Grid}
-use Rattle.value.specs.Value.{Value, Outcome, readable, refused, placed, gridded, unknown, texts, dated, widthsOf, structured, structures, reading, planOf, valueBy, valueOf}
+use Rattle.value.specs.Value.{Value, ValueOutcome, readable, refused, placed, gridded, unknown, texts, dated, widthsOf, structured, structures, columnLetters, planOf, valueBy, valueOf}
 use Rattle.items.specs.At.{found, foundAt}
 use Rattle.view.specs.declared.View.{View}
 use Rattle.view.specs.View.{foundIn}
@@ -33,7 +33,7 @@ use Rattle.newer_camera.specs.OldReader.{textFor}
 use Rattle.newer_camera.proofs.Value.{found-there}
 
 -- a row's value: of its header, its payload and its TYPE text, and of nothing else
-abbrev pub rowValue : Record → Outcome
+abbrev pub rowValue : Record → ValueOutcome
 rowValue r = valueOf (r .content .header) (r .content .payload) (textFor (r .content .header) (r .type))
 
 -- EACH ROW of an accepted reading leads to its own value
@@ -52,7 +52,7 @@ module _ (forced : Bool) (s : List ℕ) (room : ℕ) (rs : List Record) (headers
 
 -- ---- a value itself is refused with 6, 7 or 8 only
 
-abbrev pub OwnRefusal : Outcome → Type 0
+abbrev pub OwnRefusal : ValueOutcome → Type 0
 OwnRefusal (readable v) = Unit {0}
 OwnRefusal (refused number) = (number ≡ 6) ⊎ (number ≡ 7) ⊎ (number ≡ 8)
 
@@ -78,8 +78,8 @@ structures-own : (type : List ℕ) (h : KLV) (payload : List ℕ) → OwnRefusal
 structures-own [] h payload = gridded-own unknown payload
 structures-own (c ∷ type) h payload = go (leb (length (expanded (c ∷ type))) 256)
   where
-    go : (b : Bool) → OwnRefusal (cond b (structured (reading (expanded (c ∷ type))) h payload) (refused 8))
-    go true = structured-own (reading (expanded (c ∷ type))) h payload
+    go : (b : Bool) → OwnRefusal (cond b (structured (columnLetters (expanded (c ∷ type))) h payload) (refused 8))
+    go true = structured-own (columnLetters (expanded (c ∷ type))) h payload
     go false = inr (inr refl)
 
 texts-own : (h : KLV) (payload : List ℕ) → OwnRefusal (texts h payload)

@@ -29,7 +29,7 @@ use Rattle.items.specs.At.{foundAt}
 use Rattle.values.specs.At.{klvOfFound}
 use Rattle.values.specs.declared.Headed.{Headed}
 use Rattle.values.specs.declared.Headed.the-variants as headed
-use Rattle.tagged.specs.Tagged.{itemBy, itemAt, itemOf, taggedOf}
+use Rattle.tagged.specs.Tagged.{itemBy, taggedAt, itemOf, taggedOf}
 use Rattle.tagged.specs.declared.Tagged.{Tagged}
 use Rattle.tagged.specs.declared.Tagged.the-variants.{Is, Nothing, Refused}
 use Rattle.newer_camera.proofs.Value.{found-there}
@@ -59,8 +59,8 @@ module _ (kind of-group tag key : ℕ) where
 
 module _ (s : List ℕ) (within : length s ≤ mostBytes) where
   -- an item at a place is there or refused, and never nothing
-  keeps : (place : ℕ) (other : Tagged) → laterItem (itemAt s place) other ≡ itemAt s place
-  unfolding itemAt
+  keeps : (place : ℕ) (other : Tagged) → laterItem (taggedAt s place) other ≡ taggedAt s place
+  unfolding taggedAt
   keeps place other = go (klvOfFound (foundAt s place noPlace))
     where
       go : (h : Headed) → laterItem (itemBy h place) other ≡ itemBy h place
@@ -68,8 +68,8 @@ module _ (s : List ℕ) (within : length s ≤ mostBytes) where
       go (headed.Refused number at) = refl
 
   -- of a record that stands there, whatever TYPE is in force
-  there : (r : Record) → Stands s r → itemAt s (r .place) ≡ Is (r .content .header) (r .place)
-  unfolding itemAt
+  there : (r : Record) → Stands s r → taggedAt s (r .place) ≡ Is (r .content .header) (r .place)
+  unfolding taggedAt
   there r stands =
       ap (λ (f : At.Found). itemBy (klvOfFound f) (r .place))
       (found-there s within (record { place = r .place; type = noType; content = r .content }) (record { item = stands .item; type = tt; row = stands .row }))
@@ -94,11 +94,11 @@ module _ (s : List ℕ) (within : length s ≤ mostBytes) where
           let behind : drop (suc n * rowWidth) all ≡ flatMap numbers rs ++ rest =
           ap (λ (k : ℕ). drop k all) further ∙ sym (drop-drop rowWidth (n * rowWidth) all) ∙ ap (drop rowWidth) e in
           let place : rowOf all n .place ≡ r .place = ap (λ (l : List ℕ). taken l .place) e in
-          let its : itemAt s (rowOf all n .place) ≡ Is (r .content .header) (r .place) = ap (itemAt s) place ∙ there r (stand r (List·Memᴰ·head refl)) in
+          let its : taggedAt s (rowOf all n .place) ≡ Is (r .content .header) (r .place) = ap (taggedAt s) place ∙ there r (stand r (List·Memᴰ·head refl)) in
           later (lastFrom kind of-group tag key (suc n) (map (λ (q : Record). taken (numbers q)) rs)) _
           ∙ (λ i. laterItem (from rest (suc n) rs behind (λ q m. stand q (List·Memᴰ·tail m)) i) (here its (asked kind of-group tag key r) i))
         where
-          here : itemAt s (rowOf all n .place) ≡ Is (r .content .header) (r .place) → (b : Bool)
+          here : taggedAt s (rowOf all n .place) ≡ Is (r .content .header) (r .place) → (b : Bool)
               → item (cond b (row.At n) row.Nothing) ≡ cond b (Is (r .content .header) (r .place)) Nothing
           here its true = its
           here its false = refl

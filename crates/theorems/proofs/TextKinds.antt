@@ -23,7 +23,7 @@ use Rattle.value.specs.declared.Kind.the-variants as kind
 use Rattle.value.specs.declared.Grid.{Grid}
 use Rattle.value.specs.declared.Plan.{Plan}
 use Rattle.value.specs.declared.Plan.the-variants as plan
-use Rattle.value.specs.Value.{Value, Outcome, readable, refused, gridded, numbers, quaternions, text, identifier, unknown, textOf, dated, reading, widthsOf, structured, structures, isQuaternions, kindOf, letterPlan, planOf, valueBy, valueOf}
+use Rattle.value.specs.Value.{Value, ValueOutcome, readable, refused, gridded, numbers, quaternions, text, identifier, unknown, textOf, dated, columnLetters, widthsOf, structured, structures, isQuaternions, kindOf, letterPlan, planOf, valueBy, valueOf}
 use Rattle.parts.specs.Parts.{RowText, none, rowText}
 use Rattle.parts.specs.Parts as Parts
 
@@ -46,7 +46,7 @@ hasText (Parts.text before bytes) = true
 hasText none = false
 
 -- of a value that is readable, whether it is of texts
-abbrev Of : Bool → Outcome → Type 0
+abbrev Of : Bool → ValueOutcome → Type 0
 Of b (refused number) = Unit {0}
 Of b (readable v) = isText (v .kind) ≡ b
 
@@ -74,8 +74,8 @@ module _ (h : KLV) (payload : List ℕ) where
   of-structure [] = of-grid unknown
   of-structure (c ∷ type) = go (leb (length (expanded (c ∷ type))) 256)
     where
-      go : (b : Bool) → Of false (cond b (structured (reading (expanded (c ∷ type))) h payload) (refused 8))
-      go true = of-if false _ 6 refl (leb (h .repeat * widthsOf (reading (expanded (c ∷ type)))) (length payload))
+      go : (b : Bool) → Of false (cond b (structured (columnLetters (expanded (c ∷ type))) h payload) (refused 8))
+      go true = of-if false _ 6 refl (leb (h .repeat * widthsOf (columnLetters (expanded (c ∷ type)))) (length payload))
       go false = tt
 
   of-plan : (type : List ℕ) (p : Plan) → Of (ofPlan p) (valueBy p h payload type)

@@ -37,12 +37,12 @@ pub record Value : Type 0 where
   pub element : ℕ → ℕ → Element
 
 -- a value, or the number of its refusal
-pub data Outcome : Type 0 where
-  readable : Value → Outcome
-  refused : ℕ → Outcome
+pub data ValueOutcome : Type 0 where
+  readable : Value → ValueOutcome
+  refused : ℕ → ValueOutcome
 
 -- refusal 6: too few bytes in the item's own payload for the value's whole shape
-abbrev pub wanting : ℕ → List ℕ → Value → Outcome
+abbrev pub wanting : ℕ → List ℕ → Value → ValueOutcome
 wanting bytes payload v = cond (leb bytes (length payload)) (readable v) (refused refusals.tooFew)
 
 -- ---- rows of elements that are all of one letter
@@ -52,7 +52,7 @@ abbrev pub placed : Grid → List ℕ → ℕ → ℕ → Element
 placed g payload row column = elementAt payload ((row * g .columns + column) * widthOf (g .letter)) (g .letter)
 
 -- rows and columns of such elements
-abbrev pub gridded : Grid → List ℕ → Outcome
+abbrev pub gridded : Grid → List ℕ → ValueOutcome
 gridded g payload =
     wanting (g .rows * g .columns * widthOf (g .letter)) payload (record { kind = g .kind; rows = g .rows; columns = λ row. g .columns; element = placed g payload })
 
@@ -102,13 +102,13 @@ abbrev pub textRows : KLV → List ℕ → Value
 textRows h payload = record { kind = kind.Texts; rows = h .repeat; columns = λ row. length (textOf h payload row); element = placed (room h) payload }
 
 -- one UTF-8 text for each size bytes, refused with 7 if any of them is not
-abbrev pub texts : KLV → List ℕ → Outcome
+abbrev pub texts : KLV → List ℕ → ValueOutcome
 texts h payload = cond (areWellFormed (h .size) payload) (readable (textRows h payload)) (refused refusals.unreadable)
 
 -- ---- a date: milliseconds since 1970
 
 -- of a date as it was read: one element
-abbrev pub dated : Date → Outcome
+abbrev pub dated : Date → ValueOutcome
 dated (Milliseconds n) = readable (record { kind = kind.DateTime; rows = 1; columns = λ row. 1; element = λ row column. Unsigned n })
 dated TooFew = refused (Date.refusal TooFew)
 dated Unreadable = refused (Date.refusal Unreadable)
@@ -116,9 +116,9 @@ dated Unreadable = refused (Date.refusal Unreadable)
 -- ---- structures, whose columns have letters of their own
 
 -- the letters of a row that read something: the columns
-unfoldable pub reading : List ℕ → List ℕ
-reading [] = []
-reading (letter ∷ letters) = cond (eqb (widthOf letter) 0) (reading letters) (letter ∷ reading letters)
+unfoldable pub columnLetters : List ℕ → List ℕ
+columnLetters [] = []
+columnLetters (letter ∷ letters) = cond (eqb (widthOf letter) 0) (columnLetters letters) (letter ∷ columnLetters letters)
 
 -- the bytes that letters read
 unfoldable pub widthsOf : List ℕ → ℕ
@@ -126,7 +126,7 @@ widthsOf [] = 0
 widthsOf (letter ∷ letters) = widthOf letter + widthsOf letters
 
 -- of the letters that read something: each row takes the sum of their widths, size not looked at
-abbrev pub structured : List ℕ → KLV → List ℕ → Outcome
+abbrev pub structured : List ℕ → KLV → List ℕ → ValueOutcome
 structured letters h payload =
     wanting (h .repeat * widthsOf letters) payload
     (record {
@@ -137,9 +137,9 @@ structured letters h payload =
     })
 
 -- the TYPE text is written out, to 256 characters at most (refusal 8, of `resolve_custom_type`); no TYPE, or an empty one: unknown
-abbrev pub structures : List ℕ → KLV → List ℕ → Outcome
+abbrev pub structures : List ℕ → KLV → List ℕ → ValueOutcome
 structures [] h payload = gridded unknown payload
-structures (c ∷ type) h payload = cond (Resolved.fits (expanded (c ∷ type))) (structured (reading (expanded (c ∷ type))) h payload) (refused (Resolved.refusal TooLong))
+structures (c ∷ type) h payload = cond (Resolved.fits (expanded (c ∷ type))) (structured (columnLetters (expanded (c ∷ type))) h payload) (refused (Resolved.refusal TooLong))
 
 -- ---- THE VALUE
 
@@ -159,12 +159,12 @@ planOf h payload =
     (cond (oneText h) (plan.Even (text payload)) (letterPlan (h .«data_type»))))
 
 -- by what is to be read
-abbrev pub valueBy : Plan → KLV → List ℕ → List ℕ → Outcome
+abbrev pub valueBy : Plan → KLV → List ℕ → List ℕ → ValueOutcome
 valueBy (plan.Even g) h payload type = gridded g payload
 valueBy plan.Texts h payload type = texts h payload
 valueBy plan.Date h payload type = dated (dateOf payload)
 valueBy plan.Structures h payload type = structures type h payload
 
 -- of a header, a payload and the TYPE text in force, without its trailing zeros; empty for none
-abbrev pub valueOf : KLV → List ℕ → List ℕ → Outcome
+abbrev pub valueOf : KLV → List ℕ → List ℕ → ValueOutcome
 valueOf h payload type = valueBy (planOf h payload) h payload type

@@ -24,8 +24,8 @@ use Rattle.value.specs.declared.Read.{Read}
 use Rattle.value.specs.declared.Read.the-variants as read
 use Rattle.value.specs.declared.Shaped.{Shaped}
 use Rattle.value.specs.declared.Shaped.the-variants as shaped
-use Rattle.value.specs.Value.{kindOf, isQuaternions, reading, widthsOf, letterPlan, planOf}
-use Rattle.items.specs.At.{typeAt, foundAt}
+use Rattle.value.specs.Value.{kindOf, isQuaternions, columnLetters, widthsOf, letterPlan, planOf}
+use Rattle.items.specs.At.{typeNamedAt, foundAt}
 use Rattle.values.specs.At.{elementOfFound, shapeOfFound}
 
 -- an item: key, type, size, repeat below 256, payload
@@ -88,7 +88,7 @@ pub structures : (shapeAt (typed "Lb" (0 ∷ 0 ∷ []) (itemOf "ABCD" "?" 5 1 (0
     × (elementAtPlace (typed "Lb" (0 ∷ 0 ∷ []) (itemOf "ABCD" "?" 4 1 (0 ∷ 0 ∷ 0 ∷ 9 ∷ []))) 12 0 0 0 ≡ read.Refused 6 12)
     × (shapeAt (typed "\0\0\0\0" [] (itemOf "ABCD" "?" 1 1 (9 ∷ []))) 12 0 ≡ isShape kind.Unknown 0 0)
     × (shapeAt (typed "[3]" (0 ∷ []) (itemOf "ABCD" "?" 1 2 (9 ∷ 9 ∷ []))) 12 0 ≡ isShape kind.Structures 2 0)
-unfolding foundAt firstItem planOf isQuaternions widthOf oneText letterPlan kindOf elementAt elementOf typeAt typeText expanded goneThrough step reading widthsOf
+unfolding foundAt firstItem planOf isQuaternions widthOf oneText letterPlan kindOf elementAt elementOf typeNamedAt typeText expanded goneThrough step columnLetters widthsOf
 structures = (refl, refl, refl, refl, refl)
 
 -- no such TYPE at the place named (12) comes before a payload past the end (2); a length of 0 is 12; quaternions and identifiers want their bytes (6)
@@ -99,7 +99,7 @@ pub refusals : (elementAtPlace (itemOf "ABCD" "?" 2 1 (1 ∷ [])) 0 0 0 0 ≡ re
     × (elementAtPlace (itemOf "CORI" "s" 6 1 (1 ∷ 2 ∷ 3 ∷ 4 ∷ 5 ∷ 6 ∷ [])) 0 none 0 0 ≡ read.Refused 6 0)
     × (elementAtPlace (itemOf "ABCD" "G" 4 1 (1 ∷ 2 ∷ 3 ∷ 4 ∷ [])) 0 none 0 0 ≡ read.Refused 6 0)
     × (elementAtPlace (itemOf "ABCD" "B" 1 1 (1 ∷ [])) 0 none 1 0 ≡ read.Refused 13 0)
-unfolding foundAt firstItem planOf isQuaternions widthOf oneText letterPlan kindOf typeAt typeText
+unfolding foundAt firstItem planOf isQuaternions widthOf oneText letterPlan kindOf typeNamedAt typeText
 refusals = (refl, refl, refl, refl, refl, refl, refl)
 
 -- ---- texts, identifiers, dates, quaternions
@@ -125,7 +125,7 @@ pub order : (elementAtPlace (typed "f[257]" (0 ∷ 0 ∷ []) (itemOf "ABCD" "?" 
     × (elementAtPlace (itemOf "CORI" "s" 6 1 (1 ∷ 2 ∷ 3 ∷ 4 ∷ 5 ∷ 6 ∷ [])) 0 none 9 0 ≡ read.Refused 6 0)
     × (elementAtPlace (itemOf "ABCD" "c" 2 2 (178 ∷ 0 ∷ 65 ∷ 0 ∷ [])) 0 none 9 0 ≡ read.Refused 7 0)
     × (elementAtPlace (itemOf "ABCD" "U" 1 1 (50 ∷ [])) 0 none 9 0 ≡ read.Refused 6 0)
-unfolding foundAt firstItem planOf isQuaternions widthOf oneText letterPlan typeAt typeText expanded goneThrough step reading widthsOf wellFormed table fix run chunks areWellFormed dateOf copied readable withoutPlus worthOf
+unfolding foundAt firstItem planOf isQuaternions widthOf oneText letterPlan typeNamedAt typeText expanded goneThrough step columnLetters widthsOf wellFormed table fix run chunks areWellFormed dateOf copied readable withoutPlus worthOf
 order = (refl, refl, refl, refl, refl)
 
 -- a payload over the limit (1) comes before all of them, at place 0

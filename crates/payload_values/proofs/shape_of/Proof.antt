@@ -1,7 +1,7 @@
 -- `shape_of` meets its contract: by the plan. Assumes nothing.
 use mathlib.Core.Path.{subst}
 use borrow.Author.Needs.{needs}
-use Rattle.value.specs.Value.{Outcome}
+use Rattle.value.specs.Value.{ValueOutcome}
 use Rattle.value.specs.Answer.{shapeIn}
 use Rattle.payload_values.specs.Small.{CountedPlan}
 use Rattle.payload_values.proofs.Plans.{by-plan}
@@ -38,22 +38,22 @@ shape-requires-3 c κs = search needs
 returns : tie.Need-returns
 returns c =
     let a = c .before .before .before .before .before .before .before .args in
-    by-plan (λ (o : Outcome). shapeIn (a .place) o) (a .klv) (a .payload .now) (a .type-text .now) (c .before .before .before .before .plan-of .ensures) (c .before .before .grid .given .1) (c .shape .ensures)
+    by-plan (λ (o : ValueOutcome). shapeIn (a .place) o) (a .klv) (a .payload .now) (a .type-text .now) (c .before .before .before .before .plan-of .ensures) (c .before .before .grid .given .1) (c .shape .ensures)
 
 returns-2 : tie.Need-returns-2
 returns-2 c =
     let a = c .before .before .before .before .before .before .args in
-    by-plan (λ (o : Outcome). shapeIn (a .place) o) (a .klv) (a .payload .now) (a .type-text .now) (c .before .before .before .plan-of .ensures) (c .before .enum-told .given .1) (c .shape2 .ensures)
+    by-plan (λ (o : ValueOutcome). shapeIn (a .place) o) (a .klv) (a .payload .now) (a .type-text .now) (c .before .before .before .plan-of .ensures) (c .before .enum-told .given .1) (c .shape2 .ensures)
 
 returns-3 : tie.Need-returns-3
 returns-3 c =
     let a = c .before .before .before .before .before .before .args in
-    by-plan (λ (o : Outcome). shapeIn (a .place) o) (a .klv) (a .payload .now) (a .type-text .now) (c .before .before .before .plan-of .ensures) (c .before .enum-told2 .given .1) (c .date-shape .ensures)
+    by-plan (λ (o : ValueOutcome). shapeIn (a .place) o) (a .klv) (a .payload .now) (a .type-text .now) (c .before .before .before .plan-of .ensures) (c .before .enum-told2 .given .1) (c .date-shape .ensures)
 
 returns-4 : tie.Need-returns-4
 returns-4 c =
     let a = c .before .before .before .before .before .before .args in
-    by-plan (λ (o : Outcome). shapeIn (a .place) o) (a .klv) (a .payload .now) (a .type-text .now) (c .before .before .before .plan-of .ensures) (c .before .enum-told3 .given .1) (c .shape3 .ensures)
+    by-plan (λ (o : ValueOutcome). shapeIn (a .place) o) (a .klv) (a .payload .now) (a .type-text .now) (c .before .before .before .plan-of .ensures) (c .before .enum-told3 .given .1) (c .shape3 .ensures)
 
 pub shape-of-spec : {M : Type 1} → statement M
 shape-of-spec =

@@ -6,14 +6,14 @@ use native.Mathlib.Omega.{arith}
 use borrow.Author.Needs.{needs}
 use lib.ListN.{length-take}
 use Rattle.custom_type.proofs.Learnt.{accepted, refused}
-use Rattle.value.specs.Value.{Outcome, reading, structured}
+use Rattle.value.specs.Value.{ValueOutcome, columnLetters, structured}
 use Rattle.value.specs.Answer.{elementIn}
 use Rattle.structures.proofs.Structured.{no-type, no-elements, with-type}
 use Rattle.structures.proofs.element.Statement.{statement}
 use Rattle.structures.proofs.element.Tie as tie
 
 returns : tie.Need-returns
-returns c = sym (ap (λ (o : Outcome). elementIn (c .before .before .before .args .place) o (c .before .before .before .args .row) (c .before .before .before .args .column)) (no-type (c .before .before .before .args .klv) (c .before .before .before .args .payload .now) (c .before .before .before .args .type-text .now) (c .if1 .taken)) ∙ no-elements (c .before .before .before .args .klv) (c .before .before .before .args .payload .now) (c .before .before .before .args .place) (c .before .before .before .args .row) (c .before .before .before .args .column))
+returns c = sym (ap (λ (o : ValueOutcome). elementIn (c .before .before .before .args .place) o (c .before .before .before .args .row) (c .before .before .before .args .column)) (no-type (c .before .before .before .args .klv) (c .before .before .before .args .payload .now) (c .before .before .before .args .type-text .now) (c .if1 .taken)) ∙ no-elements (c .before .before .before .args .klv) (c .before .before .before .args .payload .now) (c .before .before .before .args .place) (c .before .before .before .args .row) (c .before .before .before .args .column))
 
 resolve-custom-type-requires : tie.Need-resolve-custom-type-requires
 resolve-custom-type-requires c κs = search needs
@@ -36,14 +36,14 @@ element-by-requires c κs = let w = accepted (c .before .before .before .before 
 returns-2 : tie.Need-returns-2
 returns-2 c =
     let long = refused (c .before .before .resolve-custom-type .ensures) (c .enum-told .given .1) in
-    sym (ap (λ (o : Outcome). elementIn (c .before .before .before .before .before .before .before .args .place) o (c .before .before .before .before .before .before .before .args .row) (c .before .before .before .before .before .before .before .args .column)) (with-type (c .before .before .before .before .before .before .before .args .klv) (c .before .before .before .before .before .before .before .args .payload .now) (c .before .before .before .before .before .before .before .args .type-text .now) (c .before .before .before .before .if1 .left)) ∙ simp long)
+    sym (ap (λ (o : ValueOutcome). elementIn (c .before .before .before .before .before .before .before .args .place) o (c .before .before .before .before .before .before .before .args .row) (c .before .before .before .before .before .before .before .args .column)) (with-type (c .before .before .before .before .before .before .before .args .klv) (c .before .before .before .before .before .before .before .args .payload .now) (c .before .before .before .before .before .before .before .args .type-text .now) (c .before .before .before .before .if1 .left)) ∙ simp long)
 
 returns-3 : tie.Need-returns-3
 returns-3 c =
     let w = accepted (c .before .before .before .before .before .resolve-custom-type .ensures) (c .before .before .before .n .given .0 .0) (c .before .before .before .n .given .1) in
     c .element-by .ensures
-    ∙ ap (λ (l : List ℕ). elementIn (c .before .before .before .before .before .before .before .before .before .before .args .place) (structured (reading l) (c .before .before .before .before .before .before .before .before .before .before .args .klv) (c .before .before .before .before .before .before .before .before .before .before .args .payload .now)) (c .before .before .before .before .before .before .before .before .before .before .args .row) (c .before .before .before .before .before .before .before .before .before .before .args .column)) (w .characters)
-    ∙ sym (ap (λ (o : Outcome). elementIn (c .before .before .before .before .before .before .before .before .before .before .args .place) o (c .before .before .before .before .before .before .before .before .before .before .args .row) (c .before .before .before .before .before .before .before .before .before .before .args .column)) (with-type (c .before .before .before .before .before .before .before .before .before .before .args .klv) (c .before .before .before .before .before .before .before .before .before .before .args .payload .now) (c .before .before .before .before .before .before .before .before .before .before .args .type-text .now) (c .before .before .before .before .before .before .before .if1 .left)) ∙ simp (w .fitting))
+    ∙ ap (λ (l : List ℕ). elementIn (c .before .before .before .before .before .before .before .before .before .before .args .place) (structured (columnLetters l) (c .before .before .before .before .before .before .before .before .before .before .args .klv) (c .before .before .before .before .before .before .before .before .before .before .args .payload .now)) (c .before .before .before .before .before .before .before .before .before .before .args .row) (c .before .before .before .before .before .before .before .before .before .before .args .column)) (w .characters)
+    ∙ sym (ap (λ (o : ValueOutcome). elementIn (c .before .before .before .before .before .before .before .before .before .before .args .place) o (c .before .before .before .before .before .before .before .before .before .before .args .row) (c .before .before .before .before .before .before .before .before .before .before .args .column)) (with-type (c .before .before .before .before .before .before .before .before .before .before .args .klv) (c .before .before .before .before .before .before .before .before .before .before .args .payload .now) (c .before .before .before .before .before .before .before .before .before .before .args .type-text .now) (c .before .before .before .before .before .before .before .if1 .left)) ∙ simp (w .fitting))
 
 pub element-spec : {M : Type 1} → statement M
 element-spec =

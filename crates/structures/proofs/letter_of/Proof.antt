@@ -5,13 +5,13 @@ use native.Mathlib.Omega.{arith}
 use borrow.Author.Needs.{needs}
 use lib.ListN.{length, take, drop, getD}
 use lib.Seq.{take-nil}
-use Rattle.value.specs.Value.{reading, widthsOf}
+use Rattle.value.specs.Value.{columnLetters, widthsOf}
 use Rattle.structures.proofs.Letters.{fewer, same-letter, same-bytes, the-letter, the-bytes, none-left}
 use Rattle.structures.proofs.letter_of.Statement.{statement}
 use Rattle.structures.proofs.letter_of.Tie as tie
 
 abbrev Inv-loop : tie.InvT-loop
-Inv-loop letters column left₀ before₀ i₀ left before i = (i ≤ length letters) × (getD (reading (drop i letters)) left 0 ≡ getD (reading letters) column 0) × (before + widthsOf (take left (reading (drop i letters))) ≡ widthsOf (take column (reading letters))) × (before ≤ 8 * i)
+Inv-loop letters column left₀ before₀ i₀ left before i = (i ≤ length letters) × (getD (columnLetters (drop i letters)) left 0 ≡ getD (columnLetters letters) column 0) × (before + widthsOf (take left (columnLetters (drop i letters))) ≡ widthsOf (take column (columnLetters letters))) × (before ≤ 8 * i)
 
 abbrev μ-loop : tie.MeasureT-loop
 μ-loop letters column left₀ before₀ i₀ left before i = length letters - i

@@ -4,13 +4,13 @@ use mathlib.Core.Path.{_≡_, ap}
 use native.Mathlib.Omega.{arith}
 use borrow.Author.Needs.{needs}
 use lib.ListN.{length, drop}
-use Rattle.value.specs.Value.{reading, widthsOf}
+use Rattle.value.specs.Value.{columnLetters, widthsOf}
 use Rattle.structures.proofs.Letters.{more-columns, more-bytes, none-left}
 use Rattle.structures.proofs.row_of.Statement.{statement}
 use Rattle.structures.proofs.row_of.Tie as tie
 
 abbrev Inv-loop : tie.InvT-loop
-Inv-loop letters columns₀ width₀ i₀ columns width i = (i ≤ length letters) × (columns + length (reading (drop i letters)) ≡ length (reading letters)) × (width + widthsOf (reading (drop i letters)) ≡ widthsOf (reading letters)) × (columns ≤ i) × (width ≤ 8 * i)
+Inv-loop letters columns₀ width₀ i₀ columns width i = (i ≤ length letters) × (columns + length (columnLetters (drop i letters)) ≡ length (columnLetters letters)) × (width + widthsOf (columnLetters (drop i letters)) ≡ widthsOf (columnLetters letters)) × (columns ≤ i) × (width ≤ 8 * i)
 
 abbrev μ-loop : tie.MeasureT-loop
 μ-loop letters columns₀ width₀ i₀ columns width i = length letters - i

@@ -6,14 +6,14 @@ use native.Mathlib.Omega.{arith}
 use borrow.Author.Needs.{needs}
 use lib.ListN.{length-take}
 use Rattle.custom_type.proofs.Learnt.{accepted, refused}
-use Rattle.value.specs.Value.{Outcome, reading, structured}
+use Rattle.value.specs.Value.{ValueOutcome, columnLetters, structured}
 use Rattle.value.specs.Answer.{shapeIn}
 use Rattle.structures.proofs.Structured.{no-type, no-shape, with-type}
 use Rattle.structures.proofs.shape.Statement.{statement}
 use Rattle.structures.proofs.shape.Tie as tie
 
 returns : tie.Need-returns
-returns c = sym (ap (λ (o : Outcome). shapeIn (c .before .before .before .args .place) o) (no-type (c .before .before .before .args .klv) (c .before .before .before .args .payload .now) (c .before .before .before .args .type-text .now) (c .if1 .taken)) ∙ no-shape (c .before .before .before .args .klv) (c .before .before .before .args .payload .now) (c .before .before .before .args .place))
+returns c = sym (ap (λ (o : ValueOutcome). shapeIn (c .before .before .before .args .place) o) (no-type (c .before .before .before .args .klv) (c .before .before .before .args .payload .now) (c .before .before .before .args .type-text .now) (c .if1 .taken)) ∙ no-shape (c .before .before .before .args .klv) (c .before .before .before .args .payload .now) (c .before .before .before .args .place))
 
 resolve-custom-type-requires : tie.Need-resolve-custom-type-requires
 resolve-custom-type-requires c κs = search needs
@@ -36,14 +36,14 @@ shape-by-requires c κs = let w = accepted (c .before .before .before .before .r
 returns-2 : tie.Need-returns-2
 returns-2 c =
     let long = refused (c .before .before .resolve-custom-type .ensures) (c .enum-told .given .1) in
-    sym (ap (λ (o : Outcome). shapeIn (c .before .before .before .before .before .before .before .args .place) o) (with-type (c .before .before .before .before .before .before .before .args .klv) (c .before .before .before .before .before .before .before .args .payload .now) (c .before .before .before .before .before .before .before .args .type-text .now) (c .before .before .before .before .if1 .left)) ∙ simp long)
+    sym (ap (λ (o : ValueOutcome). shapeIn (c .before .before .before .before .before .before .before .args .place) o) (with-type (c .before .before .before .before .before .before .before .args .klv) (c .before .before .before .before .before .before .before .args .payload .now) (c .before .before .before .before .before .before .before .args .type-text .now) (c .before .before .before .before .if1 .left)) ∙ simp long)
 
 returns-3 : tie.Need-returns-3
 returns-3 c =
     let w = accepted (c .before .before .before .before .before .resolve-custom-type .ensures) (c .before .before .before .n .given .0 .0) (c .before .before .before .n .given .1) in
     c .shape-by .ensures
-    ∙ ap (λ (l : List ℕ). shapeIn (c .before .before .before .before .before .before .before .before .before .before .args .place) (structured (reading l) (c .before .before .before .before .before .before .before .before .before .before .args .klv) (c .before .before .before .before .before .before .before .before .before .before .args .payload .now))) (w .characters)
-    ∙ sym (ap (λ (o : Outcome). shapeIn (c .before .before .before .before .before .before .before .before .before .before .args .place) o) (with-type (c .before .before .before .before .before .before .before .before .before .before .args .klv) (c .before .before .before .before .before .before .before .before .before .before .args .payload .now) (c .before .before .before .before .before .before .before .before .before .before .args .type-text .now) (c .before .before .before .before .before .before .before .if1 .left)) ∙ simp (w .fitting))
+    ∙ ap (λ (l : List ℕ). shapeIn (c .before .before .before .before .before .before .before .before .before .before .args .place) (structured (columnLetters l) (c .before .before .before .before .before .before .before .before .before .before .args .klv) (c .before .before .before .before .before .before .before .before .before .before .args .payload .now))) (w .characters)
+    ∙ sym (ap (λ (o : ValueOutcome). shapeIn (c .before .before .before .before .before .before .before .before .before .before .args .place) o) (with-type (c .before .before .before .before .before .before .before .before .before .before .args .klv) (c .before .before .before .before .before .before .before .before .before .before .args .payload .now) (c .before .before .before .before .before .before .before .before .before .before .args .type-text .now) (c .before .before .before .before .before .before .before .if1 .left)) ∙ simp (w .fitting))
 
 pub shape-spec : {M : Type 1} → statement M
 shape-spec =

@@ -6,12 +6,12 @@ use borrow.Author.Needs.{needs}
 use Rattle.items.specs.At.{foundAt}
 use Rattle.values.specs.At.{klvOfFound}
 use Rattle.values.specs.declared.Headed.{Headed}
-use Rattle.tagged.specs.Tagged.{itemBy, itemAt}
+use Rattle.tagged.specs.Tagged.{itemBy, taggedAt}
 use Rattle.tagged.proofs.item_at.Statement.{statement}
 use Rattle.tagged.proofs.item_at.Tie as tie
 
-by-header : (s : List ℕ) (place : ℕ) {read : Headed} (h : Headed) → read ≡ klvOfFound (foundAt s place 4294967295) → read ≡ h → itemBy h place ≡ itemAt s place
-unfolding itemAt
+by-header : (s : List ℕ) (place : ℕ) {read : Headed} (h : Headed) → read ≡ klvOfFound (foundAt s place 4294967295) → read ≡ h → itemBy h place ≡ taggedAt s place
+unfolding taggedAt
 by-header s place h is e = ap (λ (x : Headed). itemBy x place) (sym e ∙ is)
 
 klv-at-requires : tie.Need-klv-at-requires

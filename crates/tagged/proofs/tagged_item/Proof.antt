@@ -3,7 +3,7 @@ use mathlib.Core.Path.{sym, ap, _∙_}
 use borrow.Author.Needs.{needs}
 use Rattle.rows.specs.declared.Row.{Row}
 use Rattle.rows.specs.declared.Found.the-variants as row
-use Rattle.tagged.specs.Tagged.{itemAt}
+use Rattle.tagged.specs.Tagged.{taggedAt}
 use Rattle.tagged.proofs.Laws.{too-long, by-found, row-is, row-not-outside}
 use Rattle.tagged.proofs.tagged_item.Statement.{statement}
 use Rattle.tagged.proofs.tagged_item.Tie as tie
@@ -59,7 +59,7 @@ returns-5 c =
     let found = c .before .before .before .before .before .before .before .before .lookup in
     let e = c .before .before .before .before .before .before .n .given .1 in
     let is = row-is (a .s .now) (a .rows .now) (a .count) (a .group-kind) (a .group-key) (a .tag) (a .key) _ (found .ensures) e (c .before .before .before .before .row-at .ensures) (c .before .before .row .given .1) in
-    c .item-at .ensures ∙ ap (λ (r : Row). itemAt (a .s .now) (r .place)) is ∙ sym (by-found (a .s .now) (a .rows .now) (a .count) (a .group-kind) (a .group-key) (a .tag) (a .key) (c .before .before .before .before .before .before .before .before .before .if1 .left) (found .ensures) (row.At _) e)
+    c .item-at .ensures ∙ ap (λ (r : Row). taggedAt (a .s .now) (r .place)) is ∙ sym (by-found (a .s .now) (a .rows .now) (a .count) (a .group-kind) (a .group-key) (a .tag) (a .key) (c .before .before .before .before .before .before .before .before .before .if1 .left) (found .ensures) (row.At _) e)
 
 pub tagged-item-spec : {M : Type 1} → statement M
 tagged-item-spec =
