@@ -6,16 +6,14 @@ use mathlib.Core.List.{List, [], _∷_}
 use lib.Dec.{leb}
 use lib.ListN.{length}
 use Rattle.klv.specs.declared.KLV.{KLV}
-use Rattle.elements.specs.declared.Element.{Element}
 use Rattle.elements.specs.Types.{widthOf}
 use Rattle.dates.specs.declared.Date.{Date}
 use Rattle.dates.specs.declared.Date.the-variants.{Milliseconds, TooFew, Unreadable}
 use Rattle.custom_type.specs.Expansion.{expanded}
-use Rattle.value.specs.declared.Kind.{Kind}
 use Rattle.value.specs.declared.Grid.{Grid}
 use Rattle.value.specs.declared.Shaped.{Shaped}
 use Rattle.value.specs.declared.Count.{Count}
-use Rattle.value.specs.Value.{Value, ValueOutcome, readable, refused, wanting, placed, gridded, dated, columnLetters, widthsOf, structured, structures, unknown}
+use Rattle.value.specs.Value.{ValueOutcome, readable, refused, placed, gridded, dated, columnLetters, widthsOf, structured, structures, unknown}
 use Rattle.value.specs.Answer.{shapeIn, columnsIn, columnsByShape}
 
 module _ (place row : ℕ) where
@@ -29,12 +27,6 @@ module _ (place row : ℕ) where
   either : (b : Bool) (x y : ValueOutcome) → Even x → Even y → Even (cond b x y)
   either true x y p q = p
   either false x y p q = q
-
-  readable-even : (kind : Kind) (rows n : ℕ) (element : ℕ → ℕ → Element) → Even (readable (record { kind = kind; rows = rows; columns = λ r. n; element = element }))
-  readable-even kind rows n element = refl
-
-  wanting-even : (bytes : ℕ) (payload : List ℕ) (v : Value) → Even (readable v) → Even (wanting bytes payload v)
-  wanting-even bytes payload v e = either (leb bytes (length payload)) (readable v) (refused 6) e refl
 
   pub grid-even : (g : Grid) (payload : List ℕ) → Even (gridded g payload)
   grid-even g payload =
