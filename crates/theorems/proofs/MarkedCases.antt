@@ -1,25 +1,33 @@
--- THE MARKED CASES of document 01, 1 to 10, as one list: each with what is given and what it must come to, by the definitions that the promises are made
--- by. Those of payloads, 1 to 6, come from `reading`, with 11 and 12 behind them. Assumes nothing.
-use Prim.Native.Nat.{ℕ}
+-- THE MARKED CASES of document 01, 1 to 10, and 11 and 12 with them, as one list: each with what is given and what it must come to, by the definitions that
+-- the promises are made by, the lent numbers too. Assumes nothing.
+use Prim.Native.Nat.{ℕ, zero, suc, _*_}
 use Prim.Native.Char.{code}
 use Prim.Native.String.{String}
 use mathlib.Core.Path.{_≡_, refl}
-use mathlib.Core.List.{List, [], _∷_, _++_, map}
+use mathlib.Core.Bool.{Bool, true, false}
+use mathlib.Core.List.{List, [], _∷_, _++_, map, flatMap}
 use lib.IntN.{pos}
+use lib.ListN.{length, drop}
 use lib.Ieee.{Float, binary64, ofInt, add, div, lt}
 use Rattle.foundation.specs.Fuel.{run, fix}
-use Rattle.foundation.specs.Text.{characters}
+use Rattle.foundation.specs.Text.{key, characters}
 use Rattle.foundation.specs.BigEndian.{bytesOf}
 use Rattle.keys.specs.Keys.{tags}
 use Rattle.keys.specs.Table.{found}
-use Rattle.klv.specs.Item.{firstItem}
+use Rattle.klv.specs.declared.KLV.{KLV}
+use Rattle.klv.specs.Item.{firstItem, laidOut}
 use Rattle.klv.specs.Level.{itemsOf}
 use Rattle.klv.specs.OneText.{oneText, typeText}
-use Rattle.reading.specs.Answer.{Answer}
+use Rattle.reading.specs.Answer.{lent}
 use Rattle.reading.specs.Last.{lastItem, lastReading}
-use Rattle.reading.specs.Record.{numbers}
-use Rattle.reading.specs.Walk.{roleOf, itemOutcome, walk, readingOf}
-use Rattle.reading.proofs.Cases as payloads
+use Rattle.reading.specs.Record.{numbers, rowWidth, noPlace}
+use Rattle.reading.specs.Walk.{Outcome, roleOf, itemOutcome, walk, readingOf, roomOf}
+use Rattle.last_item.specs.declared.LastItem.{LastItem}
+use Rattle.last_item.specs.declared.LastItem.the-variants as chain
+use Rattle.last_item.specs.LastItem as last
+use Rattle.walk.specs.declared.Metadata.{Metadata}
+use Rattle.walk.specs.declared.Metadata.the-variants.{Rows, Refused}
+use Rattle.walk.specs.Metadata.{told}
 use Rattle.fixed.specs.Fixed.{q31-32}
 use Rattle.elements.specs.declared.Element.the-variants.{Unsigned, Double}
 use Rattle.elements.specs.Types.{widthOf}
@@ -45,14 +53,16 @@ use Rattle.axes.specs.Back.{beyond, lettered, orientationOf}
 
 -- what a case comes to
 pub data Result : Type 0 where
-  answers : Answer → Result  -- rows and headers, a last item, or a refusal
+  reading : Metadata → List ℕ → Result  -- how many rows and headers, or a refusal, and the lent numbers
+  lastItem-of : LastItem → Result
   text : List ℕ → Result
   element : Read → Result
   matrix : List (List Float) → Result
   axes : Orientation → Result
 
 pub data Case : Type 0 where
-  payload : payloads.Case → Case
+  walks : List ℕ → Bool → Metadata → List (List ℕ) → Case  -- a payload, whether the caller's group is forced, what is told, and the rows that are written
+  chains : List ℕ → LastItem → Case  -- a payload, and its last item
   expands : String → String → Case  -- a TYPE text, and what it is written out to
   reads : List ℕ → Read → Case  -- an item, and its first element
   turns : String → String → List (List Float) → Case  -- the texts of ORIN and ORIO, and their matrix
@@ -63,9 +73,22 @@ abbrev ofTexts : Orientations → Result
 ofTexts (orientations.Are orin orio) = matrix (matrixOf orin orio)
 ofTexts (orientations.Refused number place) = axes (orientation.Refused number place)
 
+-- the numbers that are lent, which have room for one row
+abbrev old : List ℕ
+old = 101 ∷ 102 ∷ 103 ∷ 104 ∷ 105 ∷ 106 ∷ 107 ∷ 108 ∷ 109 ∷ 110 ∷ []
+
+abbrev readsTo : Bool → List ℕ → Outcome
+readsTo forced payload = readingOf forced payload (roomOf (length old))
+
+-- rows one behind the other
+abbrev flat : List (List ℕ) → List ℕ
+flat [] = []
+flat (row ∷ rows) = row ++ flat rows
+
 -- what the definitions come to
 abbrev pub comes : Case → Result
-comes (payload c) = answers (payloads.comes c)
+comes (walks payload forced said written) = reading (told (readsTo forced payload)) (lent (readsTo forced payload) old)
+comes (chains payload said) = lastItem-of (last.told (lastReading payload))
 comes (expands given said) = text (expanded (characters given))
 comes (reads item said) = element (elementOfFound (foundAt item 0 4294967295) 0 0 0)
 comes (turns orin orio said) = ofTexts (orientationsOf (characters orin) (characters orio))
@@ -73,11 +96,44 @@ comes (names given said) = axes (orientationOf given)
 
 -- what document 01 says
 abbrev pub says : Case → Result
-says (payload c) = answers (payloads.says c)
+says (walks payload forced said written) = reading said (flat written ++ drop (length written * rowWidth) old)
+says (chains payload said) = lastItem-of said
 says (expands given said) = text (characters said)
 says (reads item said) = element said
 says (turns orin orio said) = matrix said
 says (names given said) = axes (orientation.Is said)
+
+-- ---- what is given
+
+abbrev header : String → ℕ → ℕ → ℕ → KLV
+header k letter size repeat = record { key = key k; «data_type» = letter; size = size; repeat = repeat }
+
+-- an item with no padding
+abbrev item : String → ℕ → ℕ → ℕ → List ℕ → List ℕ
+item k letter size repeat payload = laidOut (header k letter size repeat) payload []
+
+-- a container
+abbrev holding : String → List ℕ → List ℕ
+holding k payload = item k 0 1 (length payload) payload
+
+-- so many containers round some bytes
+abbrev round : ℕ → List ℕ → List ℕ
+round zero bytes = bytes
+round (suc n) bytes = holding "STRM" (round n bytes)
+
+abbrev four : List ℕ
+four = 1 ∷ 2 ∷ 3 ∷ 4 ∷ []
+
+abbrev five : List ℕ
+five = four ++ 5 ∷ []
+
+-- case 12's payload, as document 01 gives it
+abbrev twelve : List ℕ
+twelve = bytesOf 28 0x5354524d_00_01_0014_5343414c_73_02_0001_00010000_4759524f_73_06_0000
+
+-- a row, in the order of document 01
+abbrev row : ℕ → ℕ → ℕ → ℕ → ℕ → ℕ → ℕ → ℕ → List ℕ
+row place kind group tag k shape type depth = place ∷ kind ∷ group ∷ tag ∷ k ∷ shape ∷ type ∷ depth ∷ []
 
 abbrev three : ℕ → ℕ → ℕ → Axes
 three a b c = record { first = a; second = b; third = c }
@@ -90,13 +146,28 @@ turned = (nought ∷ minusOne ∷ nought ∷ []) ∷ (one ∷ nought ∷ nought 
 abbrev single : String → ℕ → List ℕ → List ℕ
 single letter size bytes = characters "ABCD" ++ (characters letter ++ (size ∷ 0 ∷ 1 ∷ bytes))
 
+-- ---- the list
+
 abbrev pub cases : List Case
 cases =
-    -- 1 to 6, and 11 and 12
-    map payload payloads.cases
-    ++ (
+    -- 1
+    walks [] false (Rows 0 0) []
+    ∷ chains [] chain.Nothing
+    -- 2
+    ∷ walks (five ++ 6 ∷ 7 ∷ []) false (Rows 0 0) []
+    ∷ chains (five ++ 6 ∷ 7 ∷ []) (chain.Stopped 3 0)
+    -- 3
+    ∷ walks (item "ABCD" (code "B") 5 1 five) false (Rows 1 1) (row 0 0 0 0 (key "ABCD") 0x42_05_0001 noPlace 0 ∷ [])
+    -- 4
+    ∷ walks (item "ABCD" (code "B") 6 1 five) false (Refused 2 0) []
+    -- 5
+    ∷ walks (item "GYRO" (code "s") 6 0 []) false (Rows 0 1) []
+    ∷ chains (item "GYRO" (code "s") 6 0 []) (chain.Last 0 (header "GYRO" (code "s") 6 0))
+    -- 6
+    ∷ walks (holding "STRM" four) false (Refused 3 0) []
+    ∷ walks (holding "STRM" four) true (Rows 0 1) []
     -- 7
-    expands "f[3]" "fff"
+    ∷ expands "f[3]" "fff"
     ∷ expands "f[0]" "f"
     ∷ expands "f[+5]" "fffff"
     ∷ expands "[3]f" "f"
@@ -112,8 +183,13 @@ cases =
     -- 10
     ∷ turns "YxZ" "XYZ" turned
     ∷ names turned (three (code "y") (code "X") (code "Z"))
-    ∷ [])
+    -- 11
+    ∷ walks (round 16 (item "GYRO" (code "B") 1 1 (7 ∷ []))) false (Rows 1 33) (row 128 1 (key "GYRO") 1 (key "GYRO") 0x42_01_0001 noPlace 16 ∷ [])
+    ∷ walks (round 17 (item "GYRO" (code "B") 1 1 (7 ∷ []))) false (Refused 4 0) []
+    -- 12
+    ∷ walks twelve false (Rows 1 5) (row 8 1 (key "GYRO") 4 (key "SCAL") 0x73_02_0001 noPlace 1 ∷ [])
+    ∷ []
 
 pub marked-cases : map comes cases ≡ map says cases
-unfolding fix run found tags firstItem itemsOf oneText typeText lastItem lastReading numbers roleOf itemOutcome walk readingOf expanded goneThrough step copied readable withoutPlus foundAt planOf isQuaternions widthOf kindOf letterPlan elementAt elementOf q31-32 add div ofInt dateOf dayOf timeOf year unsigned worthOf millisecondsOf possibleDay possibleTime daysOfMonth daysOfMonths daysOfYear daysOfYears entryOf beyond lettered lt orientationsOf threeAscii
+unfolding fix run found tags firstItem itemsOf oneText typeText lastItem lastReading numbers roleOf itemOutcome walk readingOf flatMap expanded goneThrough step copied readable withoutPlus foundAt planOf isQuaternions widthOf kindOf letterPlan elementAt elementOf q31-32 add div ofInt dateOf dayOf timeOf year unsigned worthOf millisecondsOf possibleDay possibleTime daysOfMonth daysOfMonths daysOfYear daysOfYears entryOf beyond lettered lt orientationsOf threeAscii
 marked-cases = refl
