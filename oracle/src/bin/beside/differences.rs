@@ -399,7 +399,30 @@ fn two_streams_of_a_group() -> Outcome {
     listed_among(&[], &Input::Payload(payload))
 }
 
-const ENTRIES: [(&str, fn() -> Outcome); 27] = [
+fn keys_not_ascii() -> Outcome {
+    let payload = bytes("ff414243 42 01 0001 07");
+    let walked = published_side::walk(&payload, false);
+    same("the Rust's entries", &1, &walked.items.len())?;
+    same("the Rust's tag", &true, &matches!(walked.items[0].id, TagId::Unknown(0xff414243)))?;
+    let (answer, rows) = library::read(&payload, false, 8);
+    same("rows, tag and key", &(1, 0, 0xff414243), &(answer.rows, library::row_at(&rows, 0).row.tag, library::row_at(&rows, 0).row.key))?;
+    both_read("ff414243 42 01 0001 07", unsigned(&[&[7]]))?;
+    listed_among(&[], &Input::Payload(payload))
+}
+
+fn other_letters_for_axes() -> Outcome {
+    let payload = gyro_stream([one(b"ORIN", b'c', b"ABC"), one(b"ORIO", b'c', b"ABC")].concat());
+    let map = published_side::walk(&payload, false).map.expect("an accepted reading");
+    same("the Rust's axes", &Some("XYZ".to_string()), &probe::oriented_group(&GroupId::Gyroscope, &map[&GroupId::Gyroscope]))?;
+    let (answer, rows) = library::read(&payload, false, 80);
+    same("orientation_of_group", &(IS, [b'X', b'Y', b'Z']), &{
+        let told = library::orientation_of_group(&payload, &rows, answer.rows, 1, u32::from_be_bytes(*b"GYRO"));
+        (told.kind, [told.axes.first, told.axes.second, told.axes.third])
+    })?;
+    listed_among(&[], &Input::Payload(payload))
+}
+
+const ENTRIES: [(&str, fn() -> Outcome); 29] = [
     ("1, the divisor of Q", divisor_of_q),
     ("2, size against the widths of letters", size_against_widths),
     ("3, MAGN has a group and no tag, FACE has neither", streams_without_a_tag),
@@ -427,6 +450,8 @@ const ENTRIES: [(&str, fn() -> Outcome); 27] = [
     ("23, a TYPE of several texts", type_of_several_texts),
     ("24, an empty TYPE behind another", empty_type),
     ("25, two streams of one group in a packet", two_streams_of_a_group),
+    ("26, keys that are not ASCII", keys_not_ascii),
+    ("27, axes that are not X, Y and Z", other_letters_for_axes),
 ];
 
 /// Every entry is as it says; each that is not is told.
