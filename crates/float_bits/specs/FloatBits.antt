@@ -1,4 +1,4 @@
--- The bits of floats, as runs compare them: document 01, Values ("In runs NaNs of a division match"), so that every NaN has one pattern.
+-- The bits of floats, with one pattern for every NaN: the arithmetic here knows one NaN (docs/DECISIONS.md, 22), and in runs NaNs match.
 -- Assumes nothing: these are definitions.
 use Prim.Native.Nat.{ℕ}
 use mathlib.Core.Bool.{cond}

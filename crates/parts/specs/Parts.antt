@@ -53,7 +53,9 @@ abbrev pub textOfFound : Found → ℕ → ℕ → Part
 textOfFound (stopped number place) at row = Refused number place
 textOfFound (found h payload type) at row = textIn at h payload (valueOf h payload type) row
 
--- the same by the columns of the row: a text's columns are its kept bytes
+-- ---- what the crate's own functions ask and tell: said of no call from outside
+
+-- a text's part by the columns of its row, which are its kept bytes
 abbrev pub textBy : KLV → Count → ℕ → ℕ → Part
 textBy h (columns.Refused number place) at row = Refused number place
 textBy h (columns.Are n) at row = cond (oneText h) (At (at + headerLength) n) (cond (eqb (h .«data_type») (code "c")) (At (at + headerLength + row * h .size) n) (Refused refusals.outside at))

@@ -1,5 +1,5 @@
 -- What is printed of a packet of a take: its line, its listing, and where it is refused the listing of its front.
--- Document 01, Cases, 12, has the listing, and Refusal numbers the front ("The walk's place is the start of the outermost item concerned").
+-- Document 01, Cases, 12, has the listing; the front is demand 1's ("the bytes before the place, read alone with the same room, are accepted").
 -- Assumes nothing: these are definitions.
 use Prim.Native.Nat.{ℕ}
 use mathlib.Core.Path.{_≡_}

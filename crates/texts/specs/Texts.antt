@@ -14,7 +14,7 @@ abbrev pub chunkLen : ℕ → ℕ → ℕ
 chunkLen zero left = left
 chunkLen (suc n) left = min (suc n) left
 
--- it takes a byte at least, and no more than there are
+-- what the code is told of it: it takes a byte at least, and no more than there are
 pub record Chunk (size left n : ℕ) : Type 0 where
   pub is : n ≡ chunkLen size left
   pub some : 0 < n

@@ -26,7 +26,7 @@ abbrev pub columnsIn : ℕ → ValueOutcome → ℕ → Count
 columnsIn place (refused number) row = columns.Refused number place
 columnsIn place (readable v) row = cond (ltb row (v .rows)) (columns.Are (v .columns row)) (columns.Refused refusals.outside place)
 
--- the same, read off a shape: right where each row has as many columns
+-- the columns read off a shape, which is right where each row has as many: for the code, and said of no call from outside
 abbrev pub columnsByShape : Shaped → ℕ → ℕ → Count
 columnsByShape (shaped.Refused number at) place row = columns.Refused number at
 columnsByShape (shaped.Is shape) place row = cond (ltb row (shape .rows)) (columns.Are (shape .columns)) (columns.Refused refusals.outside place)

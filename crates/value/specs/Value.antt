@@ -125,16 +125,19 @@ unfoldable pub widthsOf : List ℕ → ℕ
 widthsOf [] = 0
 widthsOf (letter ∷ letters) = widthOf letter + widthsOf letters
 
--- of the letters that read something: each row takes the sum of their widths, size not looked at
-abbrev pub structured : List ℕ → KLV → List ℕ → ValueOutcome
-structured letters h payload =
-    wanting (h .repeat * widthsOf letters) payload
-    (record {
+-- of the letters that read something: "each row takes the sum of its letters' widths, size not looked at"
+abbrev pub structureRows : List ℕ → KLV → List ℕ → Value
+structureRows letters h payload =
+    record {
       kind = kind.Structures;
       rows = h .repeat;
       columns = λ row. length letters;
       element = λ row column. elementAt payload (row * widthsOf letters + widthsOf (take column letters)) (getD letters column 0);
-    })
+    }
+
+-- they want as many bytes as the rows take
+abbrev pub structured : List ℕ → KLV → List ℕ → ValueOutcome
+structured letters h payload = wanting (h .repeat * widthsOf letters) payload (structureRows letters h payload)
 
 -- the TYPE text is written out, to 256 characters at most (refusal 8, of `resolve_custom_type`); no TYPE, or an empty one: unknown
 abbrev pub structures : List ℕ → KLV → List ℕ → ValueOutcome
