@@ -1,7 +1,6 @@
 // Listings and takes, laid into a lent buffer.
 use reading_answers::MetadataAnswer;
 use take::Taken;
-ghost use mathlib.Core.Path.{_≡_};
 ghost use mathlib.Core.Bool.{false};
 ghost use mathlib.Core.List.{[], _∷_};
 ghost use lib.ListN.{length};
