@@ -1,8 +1,8 @@
 # Holds docs/PROMISES.md to the sources, and prints what does not fit: a public function without a line in its crate's section, a line
 # for a function that is not there, an empty cell, a line that does not name two must-fail edits and a theorem of one answer that are there.
-# The section `## gpmf` has a line for each exported function, or the word `none`, with the call that it is and how its answer is told; each other public call stands there once,
-# but for those of `answers` and the crates named `.._answers`, which tell.
-# Reads lines `crate NAME`, `call CRATE FUNCTION`, `edit CRATE LABEL`, `further CRATE LABEL` (an edit that the gate leaves out) and `theorem NAME`, then the document (-v document=..): a section `## CRATE` for each crate, and
+# The section of a crate that exports has a line for each exported function, with the call that it is and how its answer is told; a call that is not exported has such a line too, in any
+# section, with the word `none` for the function and the reason. Each public call stands in these lines once, but for those of `answers` and the crates named `.._answers`, which tell.
+# Reads lines `crate NAME`, `call CRATE FUNCTION`, `export CRATE FUNCTION`, `edit CRATE LABEL`, `further CRATE LABEL` (an edit that the gate leaves out) and `theorem NAME`, then the document (-v document=..): a section `## CRATE` for each crate, and
 # in it a table of calls | definition | promise | one answer | must-fail edits | runs.
 
 function fault(message) { print "docs/PROMISES.md: " message }
@@ -40,8 +40,8 @@ function exported_line(    part, path, theorem) {
     for (i = 2; i < n; i++) if (cell[i] ~ /^[ \t]*$/) fault("a cell of an exported function is empty: " $0)
     split(cell[2], part, "`")
     if (cell[2] ~ /`/) {
-        if (("call gpmf " part[2]) in there) promised["call gpmf " part[2]]
-        else fault("crates/gpmf exports no `" part[2] "`")
+        if (("export " section " " part[2]) in there) promised["export " section " " part[2]]
+        else fault("crates/" section " exports no `" part[2] "`")
         theorem = part[2]
         gsub(/_/, "-", theorem)
         if (!(("theorem " theorem) in there)) fault("`" part[2] "` has no theorem of one answer")
@@ -56,10 +56,15 @@ function exported_line(    part, path, theorem) {
 
 FILENAME != document {
     there[$0]
+    if ($1 == "export") {
+        if ($3 in names) fault("`" $3 "` is exported by more than one crate")
+        names[$3]
+        exports[$2]
+    }
     next
 }
 /^## / { section = $2 }
-section == "gpmf" && /^\| (`|none )/ {
+(section in exports && /^\| `/) || /^\| none / {
     exported_line()
     next
 }
@@ -76,7 +81,7 @@ section == "gpmf" && /^\| (`|none )/ {
 END {
     for (one in there) {
         split(one, word, " ")
-        if (word[1] == "call" && !(one in promised)) fault("no line for `" word[3] "` of crates/" word[2])
-        if (word[1] == "call" && ("crate gpmf") in there && word[2] !~ /^(gpmf|([a-z]+_)?answers)$/ && !(one in exported)) fault("`" word[3] "` of crates/" word[2] " is not exported")
+        if (word[1] ~ /^(call|export)$/ && !(one in promised)) fault("no line for `" word[3] "` of crates/" word[2])
+        if (word[1] == "call" && word[2] !~ /^([a-z]+_)?answers$/ && !(one in exported)) fault("`" word[3] "` of crates/" word[2] " is not exported")
     }
 }

@@ -1,6 +1,6 @@
 # Reads .rt files token by token and finds the public functions: those that another crate or another language can call.
 # Prints each that has a `requires`; exit 1 where there is one, or where a file ends inside a brace, a text or a comment.
-# With -v list=1: prints instead a line FILE NAME for every public function.
+# With -v list=1: prints instead a line `call FILE NAME` for every public function, and `export FILE NAME` for one that another language can call.
 # What stands in the braces of a clause and in a `ghost use` is antt, the prover's language, and is passed over by antt's own rules.
 
 function fault(line, message) {
@@ -10,18 +10,18 @@ function fault(line, message) {
 
 # ---- what the tokens mean
 
-# The tokens in front of `fn`, since the item's start, make it callable from outside.
-function is_public(    word, n, i) {
+# What the tokens in front of `fn`, since the item's start, make it: an `export`, which another language can call, a `call`, which another crate can, or neither.
+function callable(    word, n, i, as) {
     n = split(before, word, " ")
     for (i = 1; i <= n; i++) {
-        if (word[i] == "pub" && word[i + 1] != "(") return 1
-        if (word[i] == "extern" || word[i] == "no_mangle" || word[i] == "export_name") return 1
+        if (word[i] == "pub" && word[i + 1] != "(") as = "call"
+        if (word[i] == "extern" || word[i] == "no_mangle" || word[i] == "export_name") return "export"
     }
-    return 0
+    return as
 }
 
 function end_of_signature() {
-    if (public && list) print file, name
+    if (public && list) print public, file, name
     if (public && asked) fault(asked, "the public function `" name "` has a `requires`")
     signature = 0
     before = ""
@@ -55,7 +55,7 @@ function token(t) {
     if (signature) signature_token(t)
     else if (t == "fn") {
         signature = 1
-        public = is_public()
+        public = callable()
         name = ""
         asked = inside = clause = 0
     } else if (t == "use" && last == "ghost") mode = "ghost use"
