@@ -1,16 +1,14 @@
 -- A quaternion scaled. Document 01, Values: "four numbers w x y z ..; scaled in f64 ..; x is negated in 16 bits first, so -32,768 stays -32,768."
 -- Assumes nothing: these are definitions.
-use Prim.Native.Nat.{suc}
-use mathlib.Core.Bool.{cond}
-use lib.Dec.{eqb}
-use lib.IntN.{ℤ, pos, negsuc, negℤ}
+use lib.IntN.{ℤ, negℤ}
 use lib.Ieee.{Float, binary64, div, ofInt}
+use mir.Syntax.{w16}
+use mir.Val.{toZ, ofZ}
 use Rattle.quaternions.specs.declared.Quaternion.{Quaternion}
 
--- 0 less x in 16 bits: 32,768 is one more than they hold, and wraps to -32,768
+-- 0 less x in 16 bits: its bits (`ofZ`), which wrap, read as a signed number (`toZ`). 32,768 is one more than they hold, and is -32,768
 unfoldable pub negated16 : ℤ → ℤ
-negated16 (pos n) = negℤ (pos n)
-negated16 (negsuc n) = cond (eqb n 32767) (negsuc n) (pos (suc n))
+negated16 x = toZ w16 (ofZ w16 (negℤ x))
 
 -- a whole number over the scale: an exact cast, and one division in f64
 abbrev pub over : Float → ℤ → Float

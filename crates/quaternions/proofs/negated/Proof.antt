@@ -1,5 +1,4 @@
 -- `negated` meets its contract: of every number but -32,768 the negation fits 16 bits. Assumes nothing.
-use borrow.Author.Tests.{ne-eqb}
 use mathlib.Core.Path.{_≡_, refl, sym, ap, _∙_, subst}
 use Prim.Native.Nat.{zero, suc}
 use native.Mathlib.Omega.{arith}
@@ -11,18 +10,13 @@ use Rattle.quaternions.specs.Quaternion.{negated16}
 use Rattle.quaternions.proofs.negated.Statement.{statement}
 use Rattle.quaternions.proofs.negated.Tie as tie
 
--- of a number other than -32768 the negation fits, and is what the definition says
+-- of a number other than -32768 the negation fits
 fits : (z : ℤ) → SFits w16 z → (z ≡ negsuc 32767 → ⊥) → SFits w16 (negℤ z)
 fits (pos zero) f n = f
 fits (pos (suc k)) f n = record { sfits = omega (arith, f .sfits) }
 fits (negsuc k) f n =
     let d : k ≡ 32767 → ⊥ = λ e. n (ap negsuc e) in
     record { sfits = omega (arith, f .sfits) }
-
-is : (z : ℤ) → (z ≡ negsuc 32767 → ⊥) → negℤ z ≡ negated16 z
-unfolding negated16
-is (pos k) n = refl
-is (negsuc k) n = simp (ne-eqb k 32767 (λ (e : k ≡ 32767). n (ap negsuc e)))
 
 back : (z : ℤ) → SFits w16 z → pos 0 -ℤ toZ w16 (ofZ w16 z) ≡ negℤ z
 back z f = +ℤ-idl (negℤ (toZ w16 (ofZ w16 z))) ∙ ap negℤ (toZ-ofZ w16 z f)
@@ -42,10 +36,8 @@ returns c =
     b ∙ subst (λ (z : ℤ). z ≡ negated16 z) (sym e) refl
 
 returns-2 : tie.Need-returns-2
-returns-2 c =
-    let x = c .before .args .x in
-    let f = c .before .fits .x in
-    ap (λ (z : ℤ). toZ w16 (ofZ w16 z)) (back x f) ∙ toZ-ofZ w16 (negℤ x) (fits x f (other c)) ∙ is x (other c)
+unfolding negated16
+returns-2 c = ap (λ (z : ℤ). toZ w16 (ofZ w16 z)) (back (c .before .args .x) (c .before .fits .x))
 
 pub negated-spec : {M : Type 1} → statement M
 negated-spec = tie.close (tie.spec sub-result returns returns-2)
