@@ -4,7 +4,7 @@ ghost use Rattle.listing_line.specs.Lines.{Begins};
 ghost use Rattle.gpmf_list.specs.Printed.{printed};
 
 // The most bytes that are held of a payload; one more tells that there are more.
-const MOST_BYTES: usize = 65536;
+const MOST_HELD: usize = 65536;
 
 // The refusal of a payload over the limit.
 const TOO_LONG: u32 = 1;
@@ -36,7 +36,7 @@ fn goes_on() -> bool {
 fn print(payload: &[u8], rows: &mut [u32; 16384], out: &mut [u8; 131072]) -> usize
     ensures { λ r. ⌜ Begins (printed (now (payload .entry))) r (now (out .exit)) ⌝ }
 {
-    if MOST_BYTES < payload.len() {
+    if MOST_HELD < payload.len() {
         let answer = Metadata::Refused {
             number: TOO_LONG,
             place: 0,

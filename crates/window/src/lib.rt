@@ -12,14 +12,14 @@ ghost use Rattle.search.specs.Search.{findFrom};
 ghost use Rattle.window.specs.Steps.{lastBytes, overHeld, inFile, readFrom, tellPacket, overlapping, readPast, tellLong, seekEnd, nextStep, Keeps};
 
 // The most bytes that are held of a packet.
-pub const MOST_BYTES: usize = 65536;
+pub const MOST_HELD: usize = 65536;
 
 // The last bytes of a window, in which a DEVC may begin that ends in what is read next.
 const LAST_BYTES: usize = 3;
 
 // How many bytes of a window say that a packet is over what is held, and the one that may overlap it too: a DEVC and four bytes, the most bytes,
 // the last ones, in which its end may begin, and seven by which the other may start later.
-const OVER: usize = Packets::HEADER + MOST_BYTES + LAST_BYTES + 7;
+const OVER: usize = Packets::HEADER + MOST_HELD + LAST_BYTES + 7;
 
 // The place of the window's first byte in the file, where the cutting or the search goes on in the window, and where the packets start in
 // the file whose end is sought: 0 for none. At most two overlap.
@@ -79,7 +79,7 @@ fn tell_packet(places: Places, packet: Packet, rest: usize) -> Step
         first: 0,
         second: 0,
     };
-    if bytes > MOST_BYTES as u64 {
+    if bytes > MOST_HELD as u64 {
         return Step::Long { start, bytes, rest };
     }
     Step::Held {
