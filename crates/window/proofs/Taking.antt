@@ -9,13 +9,13 @@ use borrow.Author.Tests.{ltb-true, ltb-false}
 use lib.Dec.{ltb}
 use lib.ListN.{length, drop}
 use Rattle.search.specs.Search.{findFrom}
-use Rattle.raw_file.specs.Packets.{packetsOf}
+use Rattle.raw_file.specs.Packets.{bytesIn, packetsOf}
 use Rattle.raw_file.specs.Window.{inWindow}
 use Rattle.window.specs.declared.Places.{Places}
 use Rattle.window.specs.declared.Step.{Step}
 use Rattle.window.specs.declared.Step.the-variants.{Held, Long, Read, End}
 use Rattle.window.specs.Steps.{tellNext, seekEnd, nextStep}
-use Rattle.window.specs.Taking.{Told, held, long, bytesIn, toldOf, anyLeft, atStart, Takes, ends, tellsHeld, tellsLong, readsOn}
+use Rattle.window.specs.Taking.{Told, held, long, toldOf, anyLeft, atStart, Takes, ends, tellsHeld, tellsLong, readsOn}
 use Rattle.window.proofs.Standing.{left-packets, Stands}
 use Rattle.window.proofs.Tells.{toldLeft, KeepsLeft}
 use Rattle.window.proofs.Sought.{sought-keeps}

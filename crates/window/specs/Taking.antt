@@ -5,8 +5,9 @@ use mathlib.Core.Path.{_≡_}
 use mathlib.Core.List.{List, [], _∷_, _++_}
 use mathlib.Core.Bool.{Bool, true, false, cond}
 use lib.Dec.{ltb}
-use lib.ListN.{take, drop}
+use lib.ListN.{drop}
 use Rattle.raw_file.specs.declared.Packet.{Packet}
+use Rattle.raw_file.specs.Packets.{bytesIn}
 use Rattle.window.specs.declared.Places.{Places}
 use Rattle.window.specs.declared.Step.the-variants.{Held, Long, Read, End}
 use Rattle.window.specs.Steps.{mostHeld, nextStep}
@@ -15,10 +16,6 @@ use Rattle.window.specs.Steps.{mostHeld, nextStep}
 pub data Told : Type 0 where
   held : ℕ → List ℕ → Told
   long : ℕ → ℕ → Told
-
--- the bytes of a packet
-abbrev pub bytesIn : List ℕ → Packet → List ℕ
-bytesIn bytes packet = take (packet .end - packet .start) (drop (packet .start) bytes)
 
 -- what is to be told of a packet of a file
 abbrev pub toldOf : List ℕ → Packet → Told
