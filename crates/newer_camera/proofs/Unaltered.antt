@@ -41,7 +41,7 @@ old-unaltered o r = ap (λ (by : ℕ → ℕ). movedBy by r) (λ i c. as-many o 
 
 -- ---- answers put together
 
-same-length : (rs ts : List Record) → map numbers rs ≡ map numbers ts → length rs ≡ length ts
+pub same-length : (rs ts : List Record) → map numbers rs ≡ map numbers ts → length rs ≡ length ts
 same-length [] [] e = refl
 same-length [] (t ∷ ts) e = let z : _≡_ {A = ℕ} 0 1 = cc in absurd (omega arith)
 same-length (r ∷ rs) [] e = let z : _≡_ {A = ℕ} 0 1 = cc in absurd (omega arith)

@@ -15,10 +15,10 @@ use Rattle.klv.specs.Item.{dataLen, item, firstItem, nextAt}
 use Rattle.klv.proofs.Item.{item-lengths}
 use Rattle.klv.proofs.Place.{at-item, first-item}
 use Rattle.texts.specs.Kept.{kept}
-use Rattle.reading.specs.Record.{TypeInForce, noType, typeAt, Record, typePlace}
+use Rattle.reading.specs.Record.{TypeInForce, noType, typeAt, Record, typePlace, noPlace}
 use Rattle.reading.specs.Walk.{rowItem}
 use Rattle.reading.proofs.Role.{Means, role-means}
-use Rattle.reading.proofs.Stand.{ItemStands, InForceStands, Stands}
+use Rattle.reading.proofs.Stand.{ItemStands, TypeStands, InForceStands, Stands}
 use Rattle.items.specs.At as At
 use Rattle.items.specs.At.{named, typeFor, found, foundBy, foundAt, wholeIf}
 use Rattle.newer_camera.specs.Rows.{movedType, movedBy}
@@ -32,6 +32,10 @@ module _ (s : List ℕ) (within : length s ≤ 1048576) where
   long : (at : ℕ) (h : KLV) (payload : List ℕ) → ItemStands s at h payload → length payload ≡ dataLen h
   long at h payload there = item-lengths (drop at s) h payload (drop (nextAt at h) s) (first at h payload there) .is-data
 
+  -- the place of a TYPE is not the number that names none
+  pub type-before-none : (at : ℕ) (text : List ℕ) → TypeStands s at text → at ≢ noPlace
+  type-before-none at text stands e = let f = at-item s at (stands .header) (stands .item .header) .fits in omega (arith, f, within)
+
   -- the TYPE in force is the text named by its place
   named-there : (t : TypeInForce) → InForceStands s t → (h : KLV) → typeFor (h .«data_type») s (typePlace t) ≡ named (textFor h t)
   unfolding At.typeNamedAt
@@ -42,14 +46,11 @@ module _ (s : List ℕ) (within : length s ≤ 1048576) where
       both false = refl
   named-there (typeAt at text) stands h = go (eqb (h .«data_type») (code "?"))
     where
-      at-small : at ≢ 4294967295
-      at-small e = let f = at-item s at (stands .header) (stands .item .header) .fits in omega (arith, f, within)
-
       some : 0 < length text
       some = let l = long at (stands .header) text (stands .item) in let n = stands .not-empty in omega arith
 
       is : At.typeNamedAt s at ≡ named (kept text)
-      is = rw (ne-eqb at 4294967295 at-small, first at (stands .header) text (stands .item), stands .one-text, lt-ltb 0 (length text) some)
+      is = rw (ne-eqb at noPlace (type-before-none at text stands), first at (stands .header) text (stands .item), stands .one-text, lt-ltb 0 (length text) some)
 
       go : (b : Bool) → cond b (At.typeNamedAt s at) (named []) ≡ named (cond b (kept text) [])
       go true = is

@@ -19,7 +19,7 @@ use Rattle.raw_metadata.specs.declared.NextMetadata.the-variants as next
 use Rattle.raw_metadata.specs.declared.MetadataInWindow.{MetadataInWindow}
 use Rattle.raw_metadata.specs.declared.MetadataInWindow.the-variants as here
 use Rattle.raw_metadata.specs.Readings.{readingIn, metadataOf, lentFor, ReadNext}
-use Rattle.raw_metadata.specs.Window.{overLimit, metadataIn, lentIn, ReadInWindow}
+use Rattle.raw_metadata.specs.Window.{overBytes, tooLongAt, overLimit, metadataIn, lentIn, ReadInWindow}
 
 module _ (forced : Bool) (bytes : List ℕ) (at : ℕ) (old : List ℕ) where
   -- ---- in a file
@@ -57,11 +57,11 @@ module _ (forced : Bool) (bytes : List ℕ) (at : ℕ) (old : List ℕ) where
 -- ---- over the limit or not
 
 module _ (size from : ℕ) where
-  decided : (b : Bool) → ltb (from + 1048587) size ≡ b → cond b (here.OverLimit (from + 8) 1 0 (record { at = from + 1 })) (here.More from) ≡ overLimit size from
-  decided b e = ap (λ (x : Bool). cond x (here.OverLimit (from + 8) 1 0 (record { at = from + 1 })) (here.More from)) (sym e)
+  decided : (b : Bool) → ltb (from + overBytes) size ≡ b → cond b (tooLongAt from) (here.More from) ≡ overLimit size from
+  decided b e = ap (λ (x : Bool). cond x (tooLongAt from) (here.More from)) (sym e)
 
-  pub is-over : from + 1048587 < size → here.OverLimit (from + 8) 1 0 (record { at = from + 1 }) ≡ overLimit size from
-  is-over h = decided true (lt-ltb (from + 1048587) size h)
+  pub is-over : from + overBytes < size → tooLongAt from ≡ overLimit size from
+  is-over h = decided true (lt-ltb (from + overBytes) size h)
 
-  pub not-over : size ≤ from + 1048587 → here.More from ≡ overLimit size from
-  not-over h = decided false (le-ltb (from + 1048587) size h)
+  pub not-over : size ≤ from + overBytes → here.More from ≡ overLimit size from
+  not-over h = decided false (le-ltb (from + overBytes) size h)

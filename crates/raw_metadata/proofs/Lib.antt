@@ -1,4 +1,5 @@
 pub mod Answers
 pub mod Readings
 pub mod Window
+pub mod Stream
 pub mod Cases

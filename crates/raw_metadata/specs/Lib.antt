@@ -1,2 +1,3 @@
 pub mod Readings
 pub mod Window
+pub mod Stream

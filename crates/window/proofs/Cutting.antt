@@ -9,16 +9,14 @@ use lib.Dec.{ltb}
 use lib.ListN.{length}
 use Rattle.raw_file.specs.declared.Packet.{Packet}
 use Rattle.raw_file.specs.declared.Packets.{Packets}
-use Rattle.raw_file.specs.declared.NextPacket.{NextPacket}
-use Rattle.raw_file.specs.declared.NextPacket.the-variants as next
 use Rattle.raw_file.specs.declared.InWindow.{InWindow}
 use Rattle.raw_file.specs.declared.InWindow.the-variants as in-window
-use Rattle.raw_file.specs.Packets.{packetsFrom, nextPacket}
-use Rattle.raw_file.specs.Window.{known, inWindow}
+use Rattle.raw_file.specs.Packets.{packetsFrom}
+use Rattle.raw_file.specs.Window.{inWindow}
 use Rattle.raw_file.proofs.Next.{handed-out}
-use Rattle.raw_file.proofs.Window.{known-is, NotYet, unended, unfound, more-is}
+use Rattle.raw_file.proofs.Window.{known-is}
 use Rattle.raw_file.proofs.Moved.{packetOn}
-use Rattle.raw_file.proofs.Stream.{toldAndLeft}
+use Rattle.raw_file.proofs.Stream.{toldAndLeft, not-more, more-within}
 use Rattle.window.specs.declared.Places.{Places}
 use Rattle.window.specs.declared.Step.the-variants.{Held, Long}
 use Rattle.window.specs.Steps.{mostHeld, overHeld, inFile, cutFrom, readFrom, tellPacket, readPast, tellNext}
@@ -26,20 +24,6 @@ use Rattle.window.specs.Taking.{Told, long, toldOf}
 use Rattle.window.proofs.Standing.{left, left-packets, Stands, in-file, told-in}
 use Rattle.window.proofs.Tells.{toldLeft, KeepsLeft, told-long, told-held, stands-on}
 use Rattle.window.proofs.Past.{past-keeps}
-
--- with nothing more to come no more is wanted
-pub not-more : (window : List ℕ) (at from : ℕ) → inWindow window false at ≡ in-window.More from → ⊥
-unfolding inWindow
-not-more window at from is = split (nextPacket window at) is
-  where
-    split : (x : NextPacket) → known x ≡ in-window.More from → ⊥
-    split (next.Next packet rest) e = let z : _≡_ {A = ℕ} 0 1 = cc in omega arith
-    split next.End e = let z : _≡_ {A = ℕ} 0 1 = cc in omega arith
-
--- the place that is told where more is wanted lies behind the cursor, in the window
-further : (window : List ℕ) (at from : ℕ) → at ≤ length window → NotYet window at from → (at ≤ from) × (from ≤ length window)
-further window at from h (unended packet rest e l q) = let k = handed-out window at packet rest e in (omega (arith, k .start), omega (arith, k .inside))
-further window at from h (unfound e q) = (omega arith, omega arith)
 
 module _ (file : List ℕ) (small : length file < 2 ^ 64) {window toCome : List ℕ} {p : Places} (stands : Stands file window toCome p) (none-sought : p .first ≤ 0) where
   -- A PACKET IS TOLD
@@ -76,8 +60,8 @@ module _ (file : List ℕ) (small : length file < 2 ^ 64) {window toCome : List 
   -- MORE IS READ from a place on
   read-keeps : (more : Bool) → (more ≡ false → toCome ≡ []) → (from : ℕ) → inWindow window more (p .at) ≡ in-window.More from → KeepsLeft file window toCome p (readFrom p from)
   read-keeps more none from is =
-      let low : p .at ≤ from = further window (p .at) from (stands .within) (more-is window (p .at) more from is) .0 in
-      let high : from ≤ length window = further window (p .at) from (stands .within) (more-is window (p .at) more from is) .1 in
+      let low : p .at ≤ from = more-within window (p .at) more from (stands .within) is .0 in
+      let high : from ≤ length window = more-within window (p .at) more from (stands .within) is .1 in
       let rest : Places = record { base = inFile (p .base) from; at = 0; first = p .first; second = p .second } in
       let place : from + p .base ≡ 0 + inFile (p .base) from = omega (arith, in-file file stands small from high) in (
         left-packets file p none-sought ∙ told-in file stands more none ∙ ap (toldAndLeft file (p .base)) is ∙ ap (packetsFrom file) place

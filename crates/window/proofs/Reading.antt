@@ -15,10 +15,10 @@ use Rattle.raw_file.specs.declared.Packet.{Packet}
 use Rattle.raw_file.specs.declared.InWindow.{InWindow}
 use Rattle.raw_file.specs.declared.InWindow.the-variants as in-window
 use Rattle.raw_file.specs.Window.{inWindow}
+use Rattle.raw_file.proofs.Stream.{not-more}
 use Rattle.window.specs.declared.Places.{Places}
 use Rattle.window.specs.declared.Step.the-variants.{Held, Long, Read, End}
 use Rattle.window.specs.Steps.{mostHeld, lastBytes, overHeld, inFile, cutFrom, readFrom, tellPacket, readPast, tellNext, seekEnd, nextStep}
-use Rattle.window.proofs.Cutting.{not-more}
 
 module _ (window : List ℕ) (p : Places) (from : ℕ) (rest : Places) where
   -- a packet that is told is no read

@@ -1,21 +1,21 @@
 -- A window in its file: the bytes in front of it are done with, those behind it are still to come, and the packets that are left to be told are
 -- those from its place on, or first those whose end is sought. Assumes nothing.
 use Prim.Native.Nat.{ℕ, _+_, _<_, _≤_, _^_}
-use mathlib.Core.Path.{_≡_, refl, _∙_, sym, ap}
-use mathlib.Core.List.{List, [], _∷_, _++_, append-assoc, append-nil}
-use mathlib.Core.Bool.{Bool, true, false, cond}
+use mathlib.Core.Path.{_≡_, _∙_, sym, ap}
+use mathlib.Core.List.{List, [], _∷_, _++_}
+use mathlib.Core.Bool.{Bool, false, cond}
 use native.Mathlib.Omega.{arith}
 use native.Mathlib.Nat.{mod-eq-of-lt}
 use borrow.Author.Tests.{lt-ltb, le-ltb}
 use lib.Dec.{ltb}
-use lib.ListN.{length, take, drop, length-append, length-drop, take-append-drop}
-use lib.Seq.{drop-drop, drop-append-le, drop-append-seam, length-take-le}
+use lib.ListN.{length, drop, length-append, length-drop}
 use Rattle.raw_file.specs.declared.Packet.{Packet}
 use Rattle.raw_file.specs.Packets.{devcOrEnd, packetsFrom, nextPacket}
 use Rattle.raw_file.specs.Window.{inWindow}
 use Rattle.raw_file.proofs.Cursor.{handed, next-first}
 use Rattle.raw_file.proofs.Moved.{nextOn, next-on, end-on}
-use Rattle.raw_file.proofs.Stream.{toldAndLeft, window-told, last-told}
+use Rattle.raw_file.proofs.Stream as Stream
+use Rattle.raw_file.proofs.Stream.{toldAndLeft}
 use Rattle.window.specs.declared.Places.{Places}
 use Rattle.window.specs.Steps.{mostHeld, inFile}
 
@@ -68,20 +68,8 @@ module _ (file : List ℕ) where
 
     -- what the window tells
     pub told-in : (more : Bool) → (more ≡ false → toCome ≡ []) → packetsFrom file (p .at + p .base) ≡ toldAndLeft file (p .base) (inWindow window more (p .at))
-    told-in true none =
-        let gone = take (p .base) file in
-        let size : length gone ≡ p .base = length-take-le (p .base) file (stands .inside) in
-        let whole : (gone ++ window) ++ toCome ≡ file =
-        append-assoc gone window toCome ∙ ap (λ (l : List ℕ). gone ++ l) (sym (stands .holds)) ∙ take-append-drop (p .base) file
-        in
-        let part : drop (p .base) (gone ++ window) ≡ window = ap (λ k. drop k (gone ++ window)) (sym size) ∙ drop-append-seam gone window in
-        rw (whole, part) at (window-told (gone ++ window) (p .base) (simp length-append (omega arith)) (p .at) toCome)
-    told-in false none =
-        let part : drop (p .base) file ≡ window = stands .holds ∙ ap (λ (l : List ℕ). window ++ l) (none refl) ∙ append-nil window in
-        rw part at (last-told file (p .base) (stands .inside) (p .at))
+    told-in more none = Stream.told-in file window toCome (p .base) (stands .inside) (stands .holds) (p .at) more none
 
     -- so many bytes are let go of, and what is read stands behind the others
     pub moves : (from : ℕ) → from ≤ length window → (read reads : List ℕ) → toCome ≡ read ++ reads → drop (p .base + from) file ≡ (drop from window ++ read) ++ reads
-    moves from h read reads e =
-        sym (drop-drop from (p .base) file) ∙ ap (drop from) (stands .holds) ∙ drop-append-le from window toCome h ∙ ap (λ (l : List ℕ). drop from window ++ l) e
-        ∙ sym (append-assoc (drop from window) read reads)
+    moves = Stream.moves file window toCome (p .base) (stands .inside) (stands .holds)

@@ -9,13 +9,14 @@ use borrow.Author.Tests.{ltb-true, ltb-false}
 use lib.Dec.{ltb}
 use lib.ListN.{length, drop}
 use Rattle.search.specs.Search.{findFrom}
-use Rattle.raw_file.specs.Packets.{packetsOf}
-use Rattle.raw_file.specs.Window.{inWindow}
+use Rattle.raw_file.specs.Packets.{bytesIn, packetsOf}
+use Rattle.raw_file.specs.Window.{inWindow, anyLeft}
+use Rattle.raw_file.proofs.Stream.{none-left}
 use Rattle.window.specs.declared.Places.{Places}
 use Rattle.window.specs.declared.Step.{Step}
 use Rattle.window.specs.declared.Step.the-variants.{Held, Long, Read, End}
 use Rattle.window.specs.Steps.{tellNext, seekEnd, nextStep}
-use Rattle.window.specs.Taking.{Told, held, long, bytesIn, toldOf, anyLeft, atStart, Takes, ends, tellsHeld, tellsLong, readsOn}
+use Rattle.window.specs.Taking.{Told, held, long, toldOf, atStart, Takes, ends, tellsHeld, tellsLong, readsOn}
 use Rattle.window.proofs.Standing.{left-packets, Stands}
 use Rattle.window.proofs.Tells.{toldLeft, KeepsLeft}
 use Rattle.window.proofs.Sought.{sought-keeps}
@@ -38,12 +39,6 @@ module _ (file : List ℕ) (small : length file < 2 ^ 64) where
   known-keeps : {window toCome : List ℕ} {p : Places} (more : Bool) (step : Step) → Stands file window toCome p → (more ≡ false → toCome ≡ [])
       → nextStep window more p ≡ step → KeepsLeft file window toCome p step
   known-keeps {window} {toCome} {p} more step stands none e = subst (λ (s : Step). KeepsLeft file window toCome p s) e (step-keeps stands more none)
-
-  -- with no read left nothing is to come
-  none-left : (reads : List (List ℕ)) → anyLeft reads ≡ false → flatten reads ≡ []
-  unfolding flatten
-  none-left [] e = refl
-  none-left (read ∷ reads) e = let z : _≡_ {A = ℕ} 0 1 = cc in absurd (omega arith)
 
   -- ALL THE STEPS
   pub steps-tell : {window : List ℕ} {p : Places} {reads : List (List ℕ)} {told : List Told} → Takes window p reads told → Stands file window (flatten reads) p

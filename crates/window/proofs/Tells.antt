@@ -7,11 +7,12 @@ use borrow.Author.Tests.{lt-ltb, le-ltb}
 use lib.ListN.{length, take, drop, length-drop}
 use lib.Seq.{drop-drop, drop-append-le, take-append-le}
 use Rattle.raw_file.specs.declared.Packet.{Packet}
+use Rattle.raw_file.specs.Packets.{bytesIn}
 use Rattle.window.specs.declared.Places.{Places}
 use Rattle.window.specs.declared.Step.{Step}
 use Rattle.window.specs.declared.Step.the-variants.{Held, Long, Read, End}
 use Rattle.window.specs.Steps.{mostHeld, inFile}
-use Rattle.window.specs.Taking.{Told, held, long, bytesIn, toldOf}
+use Rattle.window.specs.Taking.{Told, held, long, toldOf}
 use Rattle.window.proofs.Standing.{left, Stands, in-file, reaches, moves}
 
 module _ (file : List ℕ) where

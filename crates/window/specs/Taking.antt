@@ -3,10 +3,12 @@
 use Prim.Native.Nat.{ℕ, _-_}
 use mathlib.Core.Path.{_≡_}
 use mathlib.Core.List.{List, [], _∷_, _++_}
-use mathlib.Core.Bool.{Bool, true, false, cond}
+use mathlib.Core.Bool.{true, cond}
 use lib.Dec.{ltb}
-use lib.ListN.{take, drop}
+use lib.ListN.{drop}
 use Rattle.raw_file.specs.declared.Packet.{Packet}
+use Rattle.raw_file.specs.Packets.{bytesIn}
+use Rattle.raw_file.specs.Window.{anyLeft}
 use Rattle.window.specs.declared.Places.{Places}
 use Rattle.window.specs.declared.Step.the-variants.{Held, Long, Read, End}
 use Rattle.window.specs.Steps.{mostHeld, nextStep}
@@ -16,19 +18,10 @@ pub data Told : Type 0 where
   held : ℕ → List ℕ → Told
   long : ℕ → ℕ → Told
 
--- the bytes of a packet
-abbrev pub bytesIn : List ℕ → Packet → List ℕ
-bytesIn bytes packet = take (packet .end - packet .start) (drop (packet .start) bytes)
-
 -- what is to be told of a packet of a file
 abbrev pub toldOf : List ℕ → Packet → Told
 toldOf file packet =
     cond (ltb mostHeld (packet .end - packet .start)) (long (packet .start) (packet .end - packet .start)) (held (packet .start) (bytesIn file packet))
-
--- whether more is to be read
-abbrev pub anyLeft : List (List ℕ) → Bool
-anyLeft [] = false
-anyLeft (read ∷ reads) = true
 
 -- nothing is held yet
 abbrev pub atStart : Places
