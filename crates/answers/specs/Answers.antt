@@ -31,7 +31,7 @@ use Rattle.parts.specs.declared.Part.{Part}
 use Rattle.parts.specs.declared.Part.the-variants as part-of
 use Rattle.value.specs.declared.Count.{Count}
 use Rattle.value.specs.declared.Count.the-variants as count
-use Rattle.answers.specs.Kinds.{refused, is, nothing, more}
+use Rattle.answer_kinds.specs.Kinds.{refused, is, nothing, more}
 use Rattle.answers.specs.declared.WholeAnswer.{WholeAnswer}
 use Rattle.answers.specs.declared.ItemAnswer.{ItemAnswer}
 use Rattle.answers.specs.declared.PartAnswer.{PartAnswer}

@@ -1,5 +1,9 @@
 // Answers as plain records of numbers, for callers in other languages: the kind of answer, a refusal's number and place, and the values.
 // What an answer does not have is 0. Here whole numbers, items and parts.
+use answer_kinds::IS;
+use answer_kinds::MORE;
+use answer_kinds::NOTHING;
+use answer_kinds::REFUSED;
 use custom_type::Expanded;
 use dates::Date;
 use klv::Header;
@@ -12,15 +16,6 @@ use value::Count;
 use values::Headed;
 ghost use mathlib.Core.Path.{_≡_};
 ghost use Rattle.answers.specs.Answers as tells;
-
-// Refused, with a number and a place.
-pub const REFUSED: u32 = 0;
-// There, with its values.
-pub const IS: u32 = 1;
-// There is none.
-pub const NOTHING: u32 = 2;
-// Not known before more is lent.
-pub const MORE: u32 = 3;
 
 // A whole number.
 #[repr(C)]

@@ -8,14 +8,6 @@ use printed::Counts;
 use window::Places;
 use window::Step;
 
-// The window, its places, what was printed, and whether there is a next step.
-struct State {
-    held: Held,
-    places: Places,
-    counts: Counts,
-    more: bool,
-}
-
 fn main() {
     let mut word = [0u8; 6];
     let count = os::arg(1, &mut word);
@@ -35,90 +27,62 @@ fn main() {
     take_all(whole, &mut bytes, &mut rows, &mut out);
 }
 
+// Steps until there is none: a packet is printed, or more is read.
 fn take_all(
     whole: bool,
     bytes: &mut [u8; 196608],
     rows: &mut [u32; 16384],
     out: &mut [u8; 262144],
 ) {
-    let mut state = at_the_start();
+    let mut held = Held {
+        count: 0,
+        ended: false,
+    };
+    let mut places = Places {
+        base: 0,
+        at: 0,
+        first: 0,
+        second: 0,
+    };
+    let mut counts = Counts {
+        read: 0,
+        refused: 0,
+        laid: 0,
+    };
     let mut turns = u64::MAX;
     while turns > 0 {
-        state = one_turn(state, whole, bytes, rows, out);
-        if state.more {
-            turns -= 1;
-        } else {
-            turns = 0;
+        turns -= 1;
+        let window = held::first(bytes, held.count);
+        match window::next_step(places, window, !held.ended) {
+            Step::Held {
+                packet,
+                start,
+                rest,
+            } => {
+                counts = printed::put_packet(
+                    counts,
+                    held::part(window, packet),
+                    start,
+                    whole,
+                    rows,
+                    out,
+                );
+                places = rest;
+            }
+            Step::Long {
+                start,
+                bytes: count,
+                rest,
+            } => {
+                counts = printed::put_long(counts, start, count, whole, out);
+                places = rest;
+            }
+            Step::Read { from, rest } => {
+                held = held::read_on(held, from, bytes);
+                places = rest;
+            }
+            Step::End => turns = 0,
         }
     }
-    printed::put_totals(state.counts, out);
-}
-
-// Nothing is held, and nothing was printed.
-fn at_the_start() -> State {
-    State {
-        held: Held {
-            count: 0,
-            ended: false,
-        },
-        places: Places {
-            base: 0,
-            at: 0,
-            first: 0,
-            second: 0,
-        },
-        counts: printed::nothing(),
-        more: true,
-    }
-}
-
-// One step: a packet is printed, or more is read.
-fn one_turn(
-    state: State,
-    whole: bool,
-    bytes: &mut [u8],
-    rows: &mut [u32],
-    out: &mut [u8],
-) -> State {
-    let held = state.held;
-    let places = state.places;
-    let counts = state.counts;
-    let window = held::first(bytes, held.count);
-    match window::next_step(places, window, !held.ended) {
-        Step::Held {
-            packet,
-            start,
-            rest,
-        } => {
-            let payload = held::part(window, packet);
-            let printed = printed::put_packet(counts, payload, start, whole, rows, out);
-            turned(held, rest, printed)
-        }
-        Step::Long {
-            start,
-            bytes: count,
-            rest,
-        } => turned(
-            held,
-            rest,
-            printed::put_long(counts, start, count, whole, out),
-        ),
-        Step::Read { from, rest } => turned(held::read_on(held, from, bytes), rest, counts),
-        Step::End => State {
-            held,
-            places,
-            counts,
-            more: false,
-        },
-    }
-}
-
-// Behind a step that is not the last.
-fn turned(held: Held, places: Places, counts: Counts) -> State {
-    State {
-        held,
-        places,
-        counts,
-        more: true,
-    }
+    printed::put_totals(counts, out);
 }

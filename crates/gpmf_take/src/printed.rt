@@ -11,14 +11,6 @@ pub(crate) struct Counts {
     pub laid: usize,
 }
 
-pub(crate) fn nothing() -> Counts {
-    Counts {
-        read: 0,
-        refused: 0,
-        laid: 0,
-    }
-}
-
 // Prints a packet, by its bytes and its start in the file.
 pub(crate) fn put_packet(
     counts: Counts,
@@ -39,7 +31,7 @@ pub(crate) fn put_packet(
 fn counted(counts: Counts, taken: Taken) -> Counts {
     if taken.accepted {
         return Counts {
-            read: one_more(counts.read),
+            read: std::num::wrapping_add_u64(counts.read, 1),
             refused: counts.refused,
             laid: taken.end,
         };
@@ -66,18 +58,14 @@ pub(crate) fn put_long(
 fn refused(counts: Counts, laid: usize) -> Counts {
     Counts {
         read: counts.read,
-        refused: one_more(counts.refused),
+        refused: std::num::wrapping_add_u64(counts.refused, 1),
         laid,
     }
 }
 
 // The number of the next packet.
 fn next_number(counts: Counts) -> u64 {
-    one_more(std::num::wrapping_add_u64(counts.read, counts.refused))
-}
-
-fn one_more(n: u64) -> u64 {
-    std::num::wrapping_add_u64(n, 1)
+    std::num::wrapping_add_u64(std::num::wrapping_add_u64(counts.read, counts.refused), 1)
 }
 
 // Writes what is laid where less room is left than a packet may take, and answers where the next one goes.

@@ -7,7 +7,6 @@ pub mod Order
 pub mod Meeting
 pub mod Unaltered
 pub mod NewerCamera
-pub mod SameValue
 pub mod Admits
 pub mod TooLong
 pub mod Samples

@@ -1,13 +1,13 @@
 -- Other payload bytes in new items: every old row stands where it stood, and the whole answer, in numbers, is the same. Assumes nothing.
 use Prim.Native.Nat.{ℕ, zero, suc, _+_, _-_}
-use mathlib.Core.Path.{_≡_, refl, sym, ap, _∙_}
+use mathlib.Core.Path.{_≡_, refl, sym, ap, ap₂, _∙_}
 use mathlib.Core.Bool.{Bool, true, false, cond}
 use mathlib.Core.List.{List, [], _∷_, _++_, map, map-append}
 use native.Mathlib.Omega.{arith}
-use lib.Dec.{ltb}
+use lib.Dec.{ltb, leb}
 use lib.ListN.{length}
 use Rattle.klv.specs.declared.KLV.{KLV}
-use Rattle.klv.specs.Item.{nextAt, whole}
+use Rattle.klv.specs.Item.{headerLength, dataLen, aligned, nextAt, whole}
 use Rattle.klv.specs.Level.{Level, itemsOf}
 use Rattle.reading.specs.Refusal.{tooLong, number, mostBytes}
 use Rattle.reading.specs.Last.{Last, last, orElse, lastItem}
@@ -28,12 +28,10 @@ use Rattle.newer_camera.proofs.Grow.{new-keeps-type, container-keeps-ty
 as-many : {s t u : List ℕ} {put : PutIn s t} (o : OtherBytes s t put u) (from c : ℕ) → putBefore (putAgain o) from c ≡ putBefore put from c
 unfolding putBefore putAgain
 as-many in-nothing from c = refl
-as-many (in-new j o) from c = let rest = as-many o from c in rw rest
+as-many (in-new {h = h} j o) from c = ap (λ n. cond (leb from c) (headerLength + aligned (dataLen h)) 0 + n) (as-many o from c)
 as-many (behind-old {h = h} o) from c = as-many o (nextAt from h) c
 as-many (inside-old {h = h} m w o) from c =
-    let inner = as-many w (from + 8) c in
-    let rest = as-many o (nextAt from h) c in
-    rw (inner, rest)
+    ap₂ _+_ (as-many w (from + 8) c) (as-many o (nextAt from h) c)
 
 -- NO OLD ROW IS ALTERED
 pub old-unaltered : {s t u : List ℕ} {put : PutIn s t} (o : OtherBytes s t put u) (r : Record) → moved (putAgain o) r ≡ moved put r

@@ -2,4 +2,3 @@ pub mod PutIn
 pub mod Rows
 pub mod OtherBytes
 pub mod OldReader
-pub mod SameValue

@@ -14,7 +14,7 @@ use Rattle.orientation.specs.declared.Oriented.the-variants as oriented
 use Rattle.quaternions.specs.declared.Quaternion.{Quaternion}
 use Rattle.quaternions.specs.declared.ScaledRow.{ScaledRow}
 use Rattle.quaternions.specs.declared.ScaledRow.the-variants as scaled
-use Rattle.answers.specs.Kinds.{refused, is, nothing, nought}
+use Rattle.answer_kinds.specs.Kinds.{refused, is, nothing, nought}
 use Rattle.orientation_answers.specs.declared.AxesAnswer.{AxesAnswer}
 use Rattle.orientation_answers.specs.declared.OrientationsAnswer.{OrientationsAnswer}
 use Rattle.orientation_answers.specs.declared.QuaternionAnswer.{QuaternionAnswer}

@@ -18,7 +18,7 @@ use Rattle.raw_metadata.specs.declared.MetadataInWindow.the-variants as window-
 use Rattle.rows.specs.declared.Row.{Row}
 use Rattle.rows.specs.declared.RowAt.{RowAt}
 use Rattle.rows.specs.declared.RowAt.the-variants as row-at
-use Rattle.answers.specs.Kinds.{refused, is, nothing, more}
+use Rattle.answer_kinds.specs.Kinds.{refused, is, nothing, more}
 use Rattle.reading_answers.specs.declared.RowAnswer.{RowAnswer}
 use Rattle.reading_answers.specs.declared.MetadataAnswer.{MetadataAnswer}
 use Rattle.reading_answers.specs.declared.PacketAnswer.{PacketAnswer}

@@ -1,8 +1,8 @@
 // Rows, readings and packets as plain records of numbers, for callers in other languages, as crate `answers` has it.
-use answers::IS;
-use answers::MORE;
-use answers::NOTHING;
-use answers::REFUSED;
+use answer_kinds::IS;
+use answer_kinds::MORE;
+use answer_kinds::NOTHING;
+use answer_kinds::REFUSED;
 use metadata::Metadata;
 use raw_file::InWindow;
 use raw_file::NextPacket;

@@ -13,7 +13,7 @@ use Rattle.value.specs.declared.Shaped.{Shaped}
 use Rattle.value.specs.declared.Shaped.the-variants as shaped
 use Rattle.value.specs.declared.Read.{Read}
 use Rattle.value.specs.declared.Read.the-variants as read-as
-use Rattle.answers.specs.Kinds.{refused, is, nothing, nought}
+use Rattle.answer_kinds.specs.Kinds.{refused, is, nothing, nought}
 use Rattle.value_answers.specs.declared.RealAnswer.{RealAnswer}
 use Rattle.value_answers.specs.declared.Number.{Number}
 use Rattle.value_answers.specs.declared.ElementAnswer.{ElementAnswer}

@@ -1,7 +1,7 @@
 // Elements, shapes and averages as plain records of numbers, for callers in other languages, as crate `answers` has it.
-use answers::IS;
-use answers::NOTHING;
-use answers::REFUSED;
+use answer_kinds::IS;
+use answer_kinds::NOTHING;
+use answer_kinds::REFUSED;
 use durations::Average;
 use elements::Element;
 use value::Kind;

@@ -5,7 +5,7 @@ use lib.IntN.{ℤ}
 use mir.Syntax.{w64}
 use mir.ValLaws.{toZ-ofZ}
 use borrow.Author.Needs.{needs}
-use Rattle.answers.specs.Kinds.{nought}
+use Rattle.answer_kinds.specs.Kinds.{nought}
 use Rattle.value_answers.specs.Answers.{formed, ofElement}
 use Rattle.value_answers.proofs.of_element.Statement.{statement}
 use Rattle.value_answers.proofs.of_element.Tie as tie

@@ -10,10 +10,10 @@ use Rattle.value.specs.declared.Read.the-variants as read
 use Rattle.value.specs.declared.Count.the-variants as columns
 use Rattle.value.specs.Value.{ValueOutcome, readable, refused, valueOf}
 use Rattle.value.specs.Answer.{elementIn, shapeIn, columnsIn}
 use Rattle.newer_camera.specs.PutIn.{PutIn}
 use Rattle.newer_camera.specs.Rows.{moved}
 use Rattle.newer_camera.specs.OldReader.{textFor, Kept, Accepted}
-use Rattle.newer_camera.specs.SameValue.{elementAtPlace, shapeAtPlace, columnsAtPlace, SameValue}
+use Rattle.same_value.specs.SameValue.{elementAtPlace, shapeAtPlace, columnsAtPlace, SameValue}
 
 -- one value asked for at two places
 module _ (at place : ℕ) where
