@@ -7,6 +7,12 @@ pub(crate) struct Held {
     pub ended: bool,
 }
 
+// Before the first read.
+pub(crate) const NOTHING: Held = Held {
+    count: 0,
+    ended: false,
+};
+
 // Lets go of the bytes in front of a place, and reads on behind the rest.
 pub(crate) fn read_on(held: Held, from: usize, bytes: &mut [u8]) -> Held {
     let kept = window::keep(bytes, held.count, from);

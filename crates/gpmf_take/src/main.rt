@@ -3,8 +3,6 @@
 mod held;
 mod printed;
 
-use held::Held;
-use printed::Counts;
 use window::Places;
 use window::Step;
 
@@ -27,6 +25,14 @@ fn main() {
     take_all(whole, &mut bytes, &mut rows, &mut out);
 }
 
+// Where a file begins.
+const START: Places = Places {
+    base: 0,
+    at: 0,
+    first: 0,
+    second: 0,
+};
+
 // Steps until there is none: a packet is printed, or more is read.
 fn take_all(
     whole: bool,
@@ -34,21 +40,9 @@ fn take_all(
     rows: &mut [u32; 16384],
     out: &mut [u8; 262144],
 ) {
-    let mut held = Held {
-        count: 0,
-        ended: false,
-    };
-    let mut places = Places {
-        base: 0,
-        at: 0,
-        first: 0,
-        second: 0,
-    };
-    let mut counts = Counts {
-        read: 0,
-        refused: 0,
-        laid: 0,
-    };
+    let mut held = held::NOTHING;
+    let mut places = START;
+    let mut counts = printed::NONE;
     let mut turns = u64::MAX;
     while turns > 0 {
         turns -= 1;
@@ -59,14 +53,8 @@ fn take_all(
                 start,
                 rest,
             } => {
-                counts = printed::put_packet(
-                    counts,
-                    held::part(window, packet),
-                    start,
-                    whole,
-                    rows,
-                    out,
-                );
+                let payload = held::part(window, packet);
+                counts = printed::put_packet(counts, payload, start, whole, rows, out);
                 places = rest;
             }
             Step::Long {

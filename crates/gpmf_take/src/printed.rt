@@ -11,6 +11,13 @@ pub(crate) struct Counts {
     pub laid: usize,
 }
 
+// Before the first packet.
+pub(crate) const NONE: Counts = Counts {
+    read: 0,
+    refused: 0,
+    laid: 0,
+};
+
 // Prints a packet, by its bytes and its start in the file.
 pub(crate) fn put_packet(
     counts: Counts,
