@@ -1,5 +1,5 @@
--- Document 01's cases 1 to 6, 11 and 12, and samples of what is easy to get wrong and of the order of refusals, computed by the definitions.
--- Assumes nothing.
+-- Document 01's cases 1 to 6, 11 and 12, and samples of what is easy to get wrong and of the order of refusals, computed by the definitions of the
+-- reading, without a call (`theorems` has the cases as the calls answer them). Assumes nothing.
 use Prim.Native.Nat.{ℕ, zero, suc}
 use Prim.Native.Char.{code}
 use Prim.Native.String.{String}
