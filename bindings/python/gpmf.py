@@ -766,7 +766,7 @@ class Shape(NamedTuple):
 
 def element(payload: Bytes, item: ItemOrPlace, row: int, column: int, type_place: Optional[int] = None) -> Number:
     """The element at a row and a column of an item's value. Refused with 1, at place 0, or with 2, 6, 7, 8, 12 or 13, at the item's place. Here and in the calls below,
-    a type_place of NO_TYPE is none."""
+    a type_place of NO_TYPE is none. Each call goes through the whole TYPE text of a structure, or through all texts of a value: for all elements take elements or value."""
     answer = _call("gpmf_element", _bytes(payload), *_place_and_type(item, type_place), _size(row), _size(column))
     _is(answer)
     return _number(answer.element)
@@ -807,17 +807,38 @@ def _part(payload: Bytes, answer: gpmf_part_answer) -> memoryview:
 
 
 def elements(payload: Bytes, item: ItemOrPlace, type_place: Optional[int] = None) -> List[List[Number]]:
-    """All elements of an item's value, row by row. Refused as an element is."""
+    """All elements of an item's value, row by row. Refused as a shape is."""
     at, type_at = _place_and_type(item, type_place)
-    has = shape(payload, at, type_at)
+    return _elements(payload, at, type_at, shape(payload, at, type_at))
+
+
+def _elements(payload: Bytes, at: int, type_at: int, has: Shape) -> List[List[Number]]:
+    """The same of a value whose shape is known. element would write the TYPE text of a structure out for each."""
     if has.kind in (Kind.TEXT, Kind.TEXTS):
         return [list(text) for text in _kept(payload, at, has)]
-    found: List[List[Number]] = []
-    with _bytes(payload) as lent:
-        for row in range(has.rows):
-            answers = [_C.gpmf_element(*lent, at, type_at, row, column) for column in range(has.columns)]
-            found.append([_number(answer.element) for answer in answers if _is(answer)])
-    return found
+    numbers = array.array("Q", bytes(8 * has.rows * has.columns))
+    elements_at(payload, at, numbers, type_at)
+    if has.kind == Kind.STRUCTURES and has.columns:
+        columns = [_of_bits(numbers[n :: has.columns], letter) for n, letter in enumerate(_letters(payload, type_at))]
+        return [list(row) for row in zip(*columns)]
+    found = _of_bits(numbers, klv_at(payload, at, type_at).type)
+    return [found[row * has.columns : (row + 1) * has.columns] for row in range(has.rows)]
+
+
+def _letters(payload: Bytes, type_at: int) -> str:
+    """The letters of a structure's columns: those of its TYPE, written out, that read something."""
+    return "".join(letter for letter in resolve_custom_type(text_at(payload, type_at, 0)).decode("latin-1") if width(letter))
+
+
+def _of_bits(numbers: array.array[int], letter: str) -> List[Any]:
+    """The elements of one letter whose bits elements_at tells."""
+    if letter in "bslj":
+        return array.array("q", numbers.tobytes()).tolist()
+    if letter in "fq":
+        return array.array("f", array.array("I", numbers).tobytes()).tolist()
+    if letter in "dQ":
+        return array.array("d", numbers.tobytes()).tolist()
+    return numbers.tolist()
 
 
 def elements_at(payload: Bytes, item: ItemOrPlace, numbers: LongNumbers, type_place: Optional[int] = None) -> int:
@@ -838,7 +859,7 @@ def _kept(payload: Bytes, at: int, has: Shape) -> Iterator[bytes]:
 
 
 def value(payload: Bytes, item: ItemOrPlace, type_place: Optional[int] = None) -> Value:
-    """The whole value of an item, refused as an element is: a number, a list of them, or a list for each row; a text or a list of these; a date as a datetime in UTC;
+    """The whole value of an item, refused as a shape is: a number, a list of them, or a list for each row; a text or a list of these; a date as a datetime in UTC;
     the four numbers of an identifier; None for a type that is not read."""
     at, type_at = _place_and_type(item, type_place)
     has = shape(payload, at, type_at)
@@ -848,7 +869,7 @@ def value(payload: Bytes, item: ItemOrPlace, type_place: Optional[int] = None) -
         return next(_kept(payload, at, has)).decode("latin-1")
     if has.kind == Kind.TEXTS:
         return [text.decode("utf-8") for text in _kept(payload, at, has)]
-    found = elements(payload, at, type_at)
+    found = _elements(payload, at, type_at, has)
     if has.kind == Kind.DATE_TIME:
         return utc(int(found[0][0]))
     if has.kind == Kind.LIST:

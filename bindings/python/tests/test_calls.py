@@ -3,6 +3,7 @@ import array
 import datetime
 import math
 import struct
+import time
 import tracemalloc
 import unittest
 from fractions import Fraction
@@ -119,7 +120,10 @@ class Values(Refusing):
         cases += [("c", item("ABCD", "c", 3, 2, b"degm\0\0"), 0, None), ("U", item("ABCD", "U", 16, 1, b"240229235958.400"), 0, None), ("?", structures, 12, 0)]
         for letter, payload, place, type_place in cases:
             with self.subTest(letter):
-                single = [bits(each, letter) for row in gpmf.elements(payload, place, type_place) for each in row]
+                columns = [gpmf.columns(payload, place, n, type_place) for n in range(gpmf.shape(payload, place, type_place).rows)]
+                rows = [[gpmf.element(payload, place, n, column, type_place) for column in range(count)] for n, count in enumerate(columns)]
+                self.assertEqual(repr(gpmf.elements(payload, place, type_place)), repr(rows))  # a NaN is shown as one
+                single = [bits(each, letter) for row in rows for each in row]
                 numbers = array.array("Q", [9] * (len(single) + 1))
                 self.assertEqual(gpmf.elements_at(payload, place, numbers, type_place), len(single))
                 self.assertEqual(numbers.tolist(), [*single, 9])
@@ -139,6 +143,22 @@ class Values(Refusing):
         (row,) = gpmf.rows(payload)
         self.assertEqual((row.type_place, gpmf.value(payload, row)), (0, [[-1, 1, 7], [2, 3, 8]]))
         self.refused(12, 16, gpmf.value, payload, 16, 16)
+        every = item("TYPE", "c", 1, 16, b"bBsSlLfqdjJQxF\0\0") + item("ABCD", "?", 54, 3, b"\xff" * 54 + bytes(range(200, 92, -1)))
+        rows = [[gpmf.element(every, 24, n, column, 0) for column in range(12)] for n in range(3)]
+        self.assertEqual((repr(gpmf.elements(every, 24, 0)), repr(gpmf.value(every, 24, 0))), (repr(rows), repr(rows)))
+        self.assertEqual(list(map(type, rows[1])), [int] * 6 + [float] * 3 + [int] * 2 + [float])
+        nothing = item("TYPE", "c", 1, 1, b"x") + item("ABCD", "?", 1, 2, b"ab")
+        self.assertEqual(gpmf.value(nothing, 12, 0), [[], []])
+
+    def test_a_long_type_text_is_written_out_once(self):
+        """Such a text for each element would take minutes: 65,535 times half a million steps, twice."""
+        text, data = b"b" + b"]" * (16 * 32768 - 1), bytes(65535)
+        payload = item("TYPE", "F", 16, 32768, text) + item("ABCD", "?", 1, 65535, data)
+        began = time.process_time()
+        self.assertEqual(gpmf.value(payload, len(text) + 8, 0), [[0]] * 65535)
+        (row,) = gpmf.rows(payload)
+        self.assertEqual(gpmf.elements(payload, row), [[0]] * 65535)
+        self.assertLess(time.process_time() - began, 10)
 
     def test_an_item_as_a_view_has_it(self):
         payload = item("UNIT", "c", 3, 2, b"degm\0\0") + item("STNM", "c", 1, 4, b"Wet\0") + item("ABCD", "B", 1, 3, b"123")
