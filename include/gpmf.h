@@ -11,7 +11,10 @@
  * answer does not have is 0. A place is counted in bytes from the start of the payload or file. A refused call leaves what was lent as it was, with one exception:
  * gpmf_put_packet without `whole` lays the refusal and what stands before its place, and so overwrites `rows` by those of that front; with `whole` they stay.
  *
- * A payload is what stands in a DEVC of a raw file, or in a sample of a video's metadata track: items one behind the other. */
+ * A payload is what stands behind the 8 bytes of a DEVC's header, in a raw file or in a sample of a video's metadata track: items one behind the other.
+ *
+ * Calls may run in several threads at once, on memory that no other thread writes meanwhile. A call that reads a payload takes 4 KB of the stack for rows of its own and a
+ * frame for each of at most 17 levels, as compiled today some 9 KB in all; every other call takes less. */
 #ifndef GPMF_H
 #define GPMF_H
 
@@ -85,7 +88,9 @@ typedef struct gpmf_klv {
     uint16_t repeat;
 } gpmf_klv;
 
-/* The group that a key names: its number in the table of groups (0 for others), and the key. */
+/* The group that a key names: its number in this table, 0 for every other key, and the key.
+ *    1 GYRO    2 ACCL    3 GRAV    4 MAGN    5 CORI    6 IORI    7 SHUT    8 GPS5
+ *    9 FASC   10 MWET   11 AALP   12 WNDM   13 UNIF   14 WRGB   15 WBAL   16 ISOE */
 typedef struct gpmf_group_id {
     uint32_t number;
     uint32_t key;
@@ -322,7 +327,8 @@ gpmf_item_answer gpmf_get_last_klv(const uint8_t *payload, size_t payload_len);
 
 /* ---- values: of the item whose header stands at `at`, with its TYPE at `type_at` (GPMF_NO_TYPE for none), as a row has them */
 
-/* The element at a row and a column. Refused with 1, at place 0, or with 2, 6, 7, 8, 12 or 13, at the place asked. */
+/* The element at a row and a column. Refused with 1, at place 0, or with 2, 6, 7, 8, 12 or 13, at the place asked. Each call goes through the whole TYPE text of a
+ * structure, or through all texts of several, as gpmf_columns_at and gpmf_text_at do: for all elements of a value take gpmf_elements_at. */
 gpmf_element_answer gpmf_element(const uint8_t *s, size_t s_len, size_t at, size_t type_at, size_t row, size_t column);
 
 /* What the value is called, its rows, and the columns of its first row. Refused as gpmf_element, but for 13. */
@@ -332,8 +338,14 @@ gpmf_shape_answer gpmf_shape_at(const uint8_t *s, size_t s_len, size_t at, size_
 gpmf_whole_answer gpmf_columns_at(const uint8_t *s, size_t s_len, size_t at, size_t type_at, size_t row);
 
 /* All elements of the value, row after row, and in a row column after column: each as one number in numbers[0 .. numbers_len), of which those behind the last element
- * stay as they were. A signed element is its two's complement in 64 bits, a float its bits (gpmf_single_bits, gpmf_double_bits). How many there are. Refused as
- * gpmf_shape_at; with 5, at the place asked, where they do not fit. */
+ * stay as they were. How many there are. Refused as gpmf_shape_at; with 5, at the place asked, where they do not fit. The letter of the type (of a row, shape >> 24) says the
+ * form of each:
+ *   b s l j          signed, as its two's complement in 64 bits
+ *   B S L J c F G U  unsigned
+ *   f q              the bits of a float (gpmf_single_bits)
+ *   d Q              the bits of a double (gpmf_double_bits)
+ *   ?                column by column by the letters of its TYPE text (gpmf_text_at of type_at, row 0), written out (gpmf_resolve_custom_type), for which gpmf_width is not 0
+ * Every other letter has no elements. How long an element takes does not depend on the TYPE text. */
 gpmf_whole_answer gpmf_elements_at(const uint8_t *s, size_t s_len, size_t at, size_t type_at, uint64_t *numbers, size_t numbers_len);
 
 /* The header of the item. Refused with 1, at place 0, or with 2 or 12, at the place asked. */
@@ -494,7 +506,8 @@ gpmf_packet_metadata_answer gpmf_next_metadata_in(gpmf_packets packets, const ui
  * GPMF_FULL, and from GPMF_FULL on nothing is laid either, so that calls can follow one another without a test between them. A call that lays several parts, as lines, leaves
  * those that were laid before the first that does not fit */
 
-/* The listing of a payload: its first line, and a line a row; the rows go into `rows` as in gpmf_parse_metadata. */
+/* The listing of a payload: its first line, and a line a row; the rows go into `rows` as in gpmf_parse_metadata. It has at most 56 bytes for each row that rows_len has
+ * room for (gpmf_room), and 56 more. */
 size_t gpmf_list(const uint8_t *payload, size_t payload_len, uint32_t *rows, size_t rows_len, uint8_t *out, size_t out_len, size_t at);
 
 /* The first line of a listing. */
@@ -503,12 +516,14 @@ size_t gpmf_put_answer(uint8_t *out, size_t out_len, size_t at, gpmf_metadata_an
 /* A line for each of the first `count` rows that rows_len has room for. */
 size_t gpmf_put_rows(uint8_t *out, size_t out_len, size_t at, const uint32_t *rows, size_t rows_len, size_t count);
 
-/* A packet of a take: its line, its listing, and where it is refused the listing of what stands before the place; with `whole`, nothing of a refused one. The rows
- * of what is listed go into `rows`: of a refused packet those of its front, and with `whole` none, so that `rows` stay as they were. */
+/* A packet of a take: its line, its listing, and where it is refused the listing of what stands before the place; with `whole`, nothing of a refused one. The line says
+ * `number`, which a take counts from 1, `place`, where the payload starts in the file, and payload_len. The rows of what is listed go into
+ * `rows`: of a refused packet those of its front, and with `whole` none, so that `rows` stay as they were. It has at most 106 bytes more than a listing (gpmf_list). */
 gpmf_taken gpmf_put_packet(const uint8_t *payload, size_t payload_len, uint64_t number, uint64_t place, bool whole, uint32_t *rows, size_t rows_len, uint8_t *out, size_t out_len,
                            size_t at);
 
-/* A packet of more bytes than are held: its line, and its refusal with 1; with `whole`, nothing. */
+/* A packet of more bytes than are held: its line, of its number, the place where it starts in the file and how many bytes it has, its refusal with 1, and a front of no
+ * rows; with `whole`, nothing. */
 size_t gpmf_put_long_packet(uint64_t number, uint64_t place, uint64_t bytes, bool whole, uint8_t *out, size_t out_len, size_t at);
 
 /* The last line of a take: its counts. */
