@@ -5,7 +5,7 @@ use crate::item::Tag;
 use crate::number::Element;
 use crate::refusal::Refusal;
 use crate::rows::{lookup, parse_metadata, row_at, Counts, Group, Row, MOST_ROWS, ROW_WIDTH};
-use crate::value::{bytes_at, columns_at, element, shape_at, text_at, Shape};
+use crate::value::{bytes_at, columns_at, element, elements_at, shape_at, text_at, Shape};
 
 /// What a payload is read as: its rows, which lead to its values.
 ///
@@ -293,6 +293,22 @@ impl<'a> Item<'a> {
     /// ```
     pub fn element(&self, row: usize, column: usize) -> Result<Element, Refusal> {
         element(self.payload, self.row.place as usize, self.type_place(), row, column)
+    }
+
+    /// All elements of its value, each as one number, and how many there are, as [`elements_at`](crate::elements_at). Of a structure this goes through the TYPE text
+    /// once, and `element` each time.
+    ///
+    /// ```
+    /// let reading = gpmf::Reading::of(b"TYPEc\x01\x00\x02bf\0\0ABCD?\x05\x00\x01\xff\x3f\xc0\0\0")?;
+    /// let item = reading.item_of(reading.row(0).unwrap());
+    /// let mut numbers = [0; 3];
+    /// assert_eq!(item.elements_at(&mut numbers)?, 2);
+    /// assert_eq!(numbers, [-1_i64 as u64, gpmf::single_bits(1.5).into(), 0]);
+    /// assert_eq!(item.elements_at(&mut numbers[..1]).unwrap_err().number, gpmf::Refusal::NO_ROOM);
+    /// # Ok::<(), gpmf::Refusal>(())
+    /// ```
+    pub fn elements_at(&self, numbers: &mut [u64]) -> Result<usize, Refusal> {
+        elements_at(self.payload, self.row.place as usize, self.type_place(), numbers)
     }
 
     fn type_place(&self) -> Option<usize> {

@@ -122,7 +122,8 @@ pub fn columns_at(bytes: &[u8], at: usize, type_place: Option<usize>, row: usize
 }
 
 /// All elements of the value of the item at a place, each as one number, row after row and in a row column after column; how many there are. The numbers behind them
-/// stay as they were. A signed element is its two's complement in 64 bits, a float its bits ([`single_bits`](crate::single_bits), [`double_bits`](crate::double_bits)).
+/// stay as they were. By the letter of the type, `b s l j` are signed, two's complement in 64 bits, `f q` the bits of an f32 ([`single_bits`](crate::single_bits)), `d Q` those
+/// of an f64 ([`double_bits`](crate::double_bits)), and others unsigned; the columns of a `?` item have the letters of its TYPE, written out, whose [`width`](crate::width) is not 0.
 /// Refused as [`shape_at`]; with 5, at the place asked, where they do not fit. Where it is refused, all numbers stay as they were.
 ///
 /// ```

@@ -71,6 +71,34 @@ fn values_are_those_of_the_table() {
     assert_eq!(reading.item(Group::of(*b"FACE"), Tag::Other(*b"FACE")).map(|item| item.row()), None);
 }
 
+fn bits(element: Element) -> u64 {
+    match element {
+        Element::Signed(n) => n as u64,
+        Element::Unsigned(n) => n,
+        Element::Single(x) => gpmf::single_bits(x).into(),
+        Element::Double(x) => gpmf::double_bits(x),
+    }
+}
+
+/// All elements of each item at once, beside those that are read one by one.
+#[test]
+fn all_elements_are_the_single_ones() {
+    let payload = sample("packet.raw");
+    let reading = Reading::of(&payload).unwrap();
+    for item in reading.rows().map(|row| reading.item_of(row)) {
+        let places = (0..item.shape().unwrap().rows).flat_map(|row| (0..item.columns(row).unwrap()).map(move |column| (row, column)));
+        let single: Vec<u64> = places.map(|(row, column)| bits(item.element(row, column).unwrap())).collect();
+        let mut numbers = vec![9; single.len() + 1];
+        assert_eq!(item.elements_at(&mut numbers), Ok(single.len()));
+        assert_eq!(numbers, [single.as_slice(), &[9]].concat());
+        if !single.is_empty() {
+            let refusal = Refusal { number: Refusal::NO_ROOM, place: item.row().place as usize };
+            assert_eq!(item.elements_at(&mut numbers[1..single.len()]), Err(refusal));
+            assert_eq!(numbers, [single.as_slice(), &[9]].concat());
+        }
+    }
+}
+
 /// What stands before a refusal's place is read, and a refused call leaves lent rows as they were.
 #[test]
 fn a_refused_packet_has_a_front() {
