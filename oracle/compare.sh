@@ -5,10 +5,12 @@
 set -eu
 [ $# -ge 4 ] || { echo "usage: $0 SEED TIMES PROGRAM COMMAND [WORD ..]" >&2; exit 2; }
 here=$(CDPATH='' cd -- "$(dirname -- "$0")" && pwd)
+[ -x "$here/target/release/gpmf-oracle" ] || { echo "no oracle: build it first, build.sh DOCS_SRC" >&2; exit 2; }
 seed=$1 times=$2 program=$3
 shift 3
 room=$(mktemp -d)
 trap 'rm -rf "$room"' EXIT
+trap 'exit 130' HUP INT TERM
 "$here/questions.py" --seed "$seed" --times "$times" "$program" > "$room/all"
 grep -v '^$' "$room/all" > "$room/questions" # an empty line has no answer
 "$here/target/release/gpmf-oracle" < "$room/questions" > "$room/oracle"
