@@ -387,6 +387,33 @@ def walks(draw, times):
     return (ask_walk(payload, forced) for payload in payloads(draw, times) for forced in (0, 1))
 
 
+def many_rows(draw, times):
+    """More rows than the quick pass of `metadata` makes apart, 128, in streams: the walk seeks the last item of each and names its group. Streams round 127 to 130 rows
+    and more; one in another, two in a third; the last item a row, empty, or a stream; bytes left over behind it, and an item that runs past the end; trees of streams."""
+    keys = [key.encode() for key in GROUP_KEYS + OTHER_TAG_KEYS + STRANGE_KEYS]
+    def readings(count):
+        return [one(draw.choice(keys), ord("B"), draw.randbytes(1)) for _ in range(count)]
+    def tree(count, depth):
+        parts = []
+        while count > 0:
+            some = draw.randrange(1, count + 1)
+            parts += [tree(some, depth - 1)] if depth > 0 and draw.random() < 0.5 else readings(some)
+            count -= some
+        return stream(parts)
+    def made():
+        for count in (127, 128, 129, 130, 200):
+            yield stream(readings(count))
+        for count in (129, 140):
+            yield stream([*readings(count), header(ord("s"), 6, 0, b"GYRO")])
+            yield stream([*readings(70), stream(readings(count - 70))])
+            yield stream([stream(readings(70)), stream([*readings(count - 70), header(0, 1, 0, b"STRM")]), *readings(1)])
+            yield stream([*readings(count), draw.randbytes(3)])
+            yield stream([*readings(count), header(ord("B"), 1, 5, b"GYRO"), b"1234"])
+        for _ in range(8 * times):
+            yield tree(draw.randrange(129, 300), 4)
+    return (ask_walk(payload) for payload in made())
+
+
 def last_items(draw, times):
     return (f"last {shown(payload)}" for payload in payloads(draw, times))
 
@@ -564,6 +591,7 @@ WALKS = {
     "structures": structures,
     "samples": lambda draw, times: description_samples(draw),
     "walk": walks,
+    "many": many_rows,
     "no-walk": lambda draw, times: no_walks(draw),
 }
 
