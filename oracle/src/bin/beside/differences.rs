@@ -328,7 +328,29 @@ fn devc_inside() -> Outcome {
     listed_alone(Listed::Told, &Input::File(file))
 }
 
-fn short_quaternions_and_stamps() -> Outcome {
+/// What the Rust's `get` gives of values whose read fails: a default.
+fn defaults() -> Outcome {
+    let [identifier, structure, date, texts] = [
+        "41424344 47 01 0001 00",
+        "54595045 63 01 0001 4c000000 41424344 3f 01 0001 07",
+        "41424344 55 10 0001 7834303232393132303030302e303030",
+        "41424344 63 02 0002 b200b200",
+    ];
+    for (payload, number) in [(identifier, 6), (structure, 6), (date, 7), (texts, 7)] {
+        refused_value(payload, false, number)?;
+        listed_among(&[], &Input::Payload(bytes(payload)))?;
+    }
+    let value = |payload| published_side::walk(&bytes(payload), false).items.pop().expect("a row").value;
+    let (TagValue::Uuid(four), TagValue::Vec_Scalar(row), TagValue::u64(ms), TagValue::Vec_String(list)) =
+        (value(identifier), value(structure), value(date), value(texts))
+    else {
+        return Err("the Rust has other types".into());
+    };
+    same("what the Rust's get gives", &((0, 0, 0, 0), 0, 0, 0), &(*four.get(), row.get().len(), *ms.get(), list.get().len()))
+}
+
+fn unread_values_and_stamps() -> Outcome {
+    defaults()?;
     let payload = container(b"STRM", &bytes("434f5249 73 02 0003 000100020003"));
     let map = published_side::walk(&payload, false).map.expect("an accepted reading");
     same("how many quaternions the Rust has", &Some(0), &probe::quaternions(&map[&GroupId::CameraOrientation]).map(|list| list.len()))?;
@@ -422,7 +444,25 @@ fn other_letters_for_axes() -> Outcome {
     listed_among(&[], &Input::Payload(payload))
 }
 
-const ENTRIES: [(&str, fn() -> Outcome); 29] = [
+fn axes_by_the_model() -> Outcome {
+    for (model, expected) in [("HERO6", Some("ZyX")), ("HERO7 Silver", Some("YXz")), ("HERO8", None)] {
+        let file = container(b"DEVC", &[one(b"MINF", b'c', model.as_bytes()), gyro_stream(vec![])].concat());
+        same("the Rust's axes", &Some(vec![expected.map(str::to_string)]), &probe::axes_of_file(&file, &GroupId::Gyroscope))?;
+        let (answer, rows) = library::read(&file[8..], false, 80);
+        same("rows", &2, &answer.rows)?;
+        same("orientation_of_group", &NOTHING, &library::orientation_of_group(&file[8..], &rows, answer.rows, 1, u32::from_be_bytes(*b"GYRO")).kind)?;
+    }
+    same(
+        "the Rust's axes of the smallest file",
+        &Some(vec![Some("ZyX".to_string())]),
+        &probe::axes_of_file(
+            &bytes("44455643 00 01 0021 4d494e46 63 01 0005 4845524f36 000000 5354524d 00 01 0009 4759524f 42 01 0001 00"),
+            &GroupId::Gyroscope,
+        ),
+    )
+}
+
+const ENTRIES: [(&str, fn() -> Outcome); 30] = [
     ("1, the divisor of Q", divisor_of_q),
     ("2, size against the widths of letters", size_against_widths),
     ("3, MAGN has a group and no tag, FACE has neither", streams_without_a_tag),
@@ -444,7 +484,7 @@ const ENTRIES: [(&str, fn() -> Outcome); 29] = [
     ("17, brackets in a TYPE", brackets),
     ("18, axes that are not three ASCII characters", other_axes),
     ("19, DEVC inside a packet", devc_inside),
-    ("20, quaternions with too few bytes, and stamps of 2^63 or more", short_quaternions_and_stamps),
+    ("20, values that cannot be read, and stamps of 2^63 or more", unread_values_and_stamps),
     ("21, q in f32", rounded_q),
     ("22, what a quaternion is divided by", divisor_of_quaternions),
     ("23, a TYPE of several texts", type_of_several_texts),
@@ -452,6 +492,7 @@ const ENTRIES: [(&str, fn() -> Outcome); 29] = [
     ("25, two streams of one group in a packet", two_streams_of_a_group),
     ("26, keys that are not ASCII", keys_not_ascii),
     ("27, axes that are not X, Y and Z", other_letters_for_axes),
+    ("28, axes by the model of the camera", axes_by_the_model),
 ];
 
 /// Every entry is as it says; each that is not is told.
