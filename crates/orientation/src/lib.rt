@@ -21,7 +21,7 @@ ghost use Rattle.orientation.specs.Group.{byPair, orientationOfGroup};
 // The axes of a group's readings.
 pub enum Oriented {
     Is(Axes),
-    // the group has no MTRX, or not both ORIN and ORIO, of the types that are read
+    // the group has neither MTRX nor both ORIN and ORIO, or what it has is of a type or size that is not read
     Nothing,
     Refused { number: u32, place: usize },
 }
