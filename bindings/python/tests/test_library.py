@@ -10,7 +10,7 @@ import tempfile
 import unittest
 
 import gpmf
-from samples import ROOT, SAMPLES, stored
+from samples import ROOT, SAMPLES, seconds, stored
 
 MODULE = pathlib.Path(gpmf.__file__).resolve()
 LIBRARY = gpmf._library_file()
@@ -82,7 +82,9 @@ class Usage(unittest.TestCase):
     def test_the_code_on_the_page_runs(self):
         (code,) = re.findall(r"^```python\n(.*?)^```$", (MODULE.parent.parent / "README.md").read_text(), re.M | re.S)
         said = run(MODULE.parent, LIBRARY, "-c", f"import os; os.chdir({str(SAMPLES)!r})\n{code}")
-        self.assertEqual(said.stdout.splitlines(), [f"{count} rows" for count in re.findall(r"^rows (\d+)", stored("take.take"), re.M)], said.stderr)
+        counts = re.findall(r"^rows (\d+)", stored("take.take"), re.M)
+        wet = [list(map(list, zip(*columns[:3]))) for columns in seconds().values()]
+        self.assertEqual(said.stdout.splitlines(), [line for count, rows in zip(counts, wet) for line in (f"{count} rows", str(rows))], said.stderr)
 
     def test_the_example_prints_the_stored_tables(self):
         for name in "take", "damaged":
