@@ -7,12 +7,13 @@ use memchr::memmem;
 use published::gopro::klv::probe;
 use std::hint::black_box;
 
+/// Nothing of the library is inlined, so the compiler knows nothing of an answer; a black box would copy it, as no caller does.
 pub fn ours(file: &[u8]) -> usize {
     let mut answer = library::packets_next(library::packets_new(0), file);
     let mut packets = 0;
     while answer.kind == IS {
         packets += 1;
-        answer = library::packets_next(black_box(answer).rest, file);
+        answer = library::packets_next(answer.rest, file);
     }
     packets
 }

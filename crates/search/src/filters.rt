@@ -26,7 +26,7 @@ pub(crate) const FIRST: Words = Words {
 };
 
 // `EV` and `VC`.
-const LAST: Words = Words {
+pub(crate) const LAST: Words = Words {
     at: 2,
     bits: 0xEAEC,
     are: 0x4244,

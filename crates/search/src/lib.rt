@@ -7,7 +7,7 @@ use filters::Filter;
 ghost use mathlib.Core.Path.{_≡_};
 ghost use Prim.Native.Nat.{_+_, _≤_, min};
 ghost use lib.ListN.{length, drop};
-ghost use Rattle.search.specs.Search.{devc, begins, findFrom, orElse};
+ghost use Rattle.search.specs.Search.{devc, begins, findFrom, devcOrEnd, orElse};
 
 // What a search finds.
 pub enum Found {
@@ -18,6 +18,27 @@ pub enum Found {
 
 // The first DEVC from a place on.
 pub fn find_devc(file: &[u8], from: usize) -> Found
+    ensures { λ r. ⌜ r ≡ findFrom (now (file .entry)) from ⌝ }
+{
+    let at = devc_or_end(file, from);
+    if at < file.len() {
+        return Found::At(at);
+    }
+    Found::Nothing
+}
+
+// The first DEVC from a place on, or the end of the file. A number, so that it is handed back in a register.
+pub fn devc_or_end(file: &[u8], from: usize) -> usize
+    ensures { λ r. ⌜ r ≡ devcOrEnd (now (file .entry)) from ⌝ }
+{
+    match seek(file, from) {
+        Found::At(at) => at,
+        Found::Nothing => file.len(),
+    }
+}
+
+// The first DEVC from a place on: near, and then behind.
+fn seek(file: &[u8], from: usize) -> Found
     ensures { λ r. ⌜ r ≡ findFrom (now (file .entry)) from ⌝ }
 {
     let n = file.len();
@@ -111,6 +132,19 @@ fn by_small_blocks(s: &[u8], from: usize, end: usize) -> Found
     by_place(s, k, end)
 }
 
+// The first of 128 places where DEVC begins. Most blocks without DEVC that the first filter does not pass the other words do.
+fn in_great_block(s: &[u8], from: usize, which: u8) -> Found
+    requires { ⌜ from + 131 ≤ length (now s) ⌝ }
+    ensures { λ r. ⌜ findFrom (now (s .entry)) from ≡ orElse r (findFrom (now (s .entry)) (from + 128)) ⌝ }
+{
+    if which == 0 {
+        if !filters::by_words(s, from, filters::LAST, 64) {
+            return Found::Nothing;
+        }
+    }
+    block::in_block(s, from, 128)
+}
+
 // The same by 128 places at a time. Behind a block that was taken for one with DEVC it goes on a place earlier, where other words of two places are compared.
 fn by_blocks(s: &[u8], from: usize, end: usize) -> Found
     requires { ⌜ (from ≤ end) × (end + 3 ≤ length (now s)) ⌝ }
@@ -126,7 +160,7 @@ fn by_blocks(s: &[u8], from: usize, end: usize) -> Found
         if end - start < 128 {
             return by_place(s, start, end);
         }
-        match block::in_block(s, start, 128) {
+        match in_great_block(s, start, filter.which) {
             Found::At(at) => {
                 return Found::At(at);
             }

@@ -261,6 +261,8 @@ use Rattle.orientation.proofs.orientation_of_group.Kinds as orientation-of-grou
 use Rattle.orientation.proofs.orientation_of_group.Reads as orientation-of-group-reads
 use Rattle.search.proofs.find_devc.Kinds as find-devc-kinds
 use Rattle.search.proofs.find_devc.Reads as find-devc-reads
+use Rattle.search.proofs.devc_or_end.Kinds as devc-or-end-kinds
+use Rattle.search.proofs.devc_or_end.Reads as devc-or-end-reads
 use Rattle.raw_file.proofs.Packets.new.Kinds as packets-new-kinds
 use Rattle.raw_file.proofs.Packets.new.Reads as packets-new-reads
 use Rattle.raw_file.proofs.Packets.next.Kinds as packets-next-kinds
@@ -574,6 +576,9 @@ orientation-of-group κs a x y s t p q = p ∙ sym q
 
 pub find-devc : OneResult 1 find-devc-kinds.ps find-devc-kinds.r find-devc-reads.Learnt
 find-devc κs a x y s t p q = p ∙ sym q
+
+pub devc-or-end : OneResult 1 devc-or-end-kinds.ps devc-or-end-kinds.r devc-or-end-reads.Learnt
+devc-or-end κs a x y s t p q = p ∙ sym q
 
 pub packets-new : OneResult 0 packets-new-kinds.ps packets-new-kinds.r packets-new-reads.Learnt
 packets-new κs a x y s t p q = λ i. record { at = (p ∙ sym q) i }

@@ -8,7 +8,7 @@ use native.Mathlib.Omega.{arith}
 use borrow.Author.Tests.{lt-ltb, ltb-true, ltb-false}
 use lib.Dec.{ltb}
 use lib.ListN.{length, length-append}
-use Rattle.search.specs.Search.{findFrom}
+use Rattle.search.specs.Search.{findFrom, orEnd, devcOrEnd}
 use Rattle.search.specs.declared.Found.{Found}
 use Rattle.search.specs.declared.Found.the-variants.{At, Nothing}
 use Rattle.search.proofs.First.{found}
@@ -17,7 +17,7 @@ use Rattle.raw_file.specs.declared.Packet.{Packet}
 use Rattle.raw_file.specs.declared.NextPacket.{NextPacket}
 use Rattle.raw_file.specs.declared.NextPacket.the-variants.{Next}
 use Rattle.raw_file.specs.declared.InWindow.the-variants as in-window
-use Rattle.raw_file.specs.Packets.{orEnd, devcOrEnd, packetAt, packetsFrom, nextPacket}
+use Rattle.raw_file.specs.Packets.{packetAt, packetsFrom, nextPacket}
 use Rattle.raw_file.specs.Window.{inWindow}
 use Rattle.raw_file.proofs.Next.{devc-or-end, same-end, behind-devc, handed-out, next-packet}
 use Rattle.raw_file.proofs.Cursor.{handed}

@@ -7,12 +7,12 @@ use native.Mathlib.Omega.{arith}
 use borrow.Author.Tests.{ltb-true, ltb-false}
 use lib.Dec.{ltb}
 use lib.ListN.{length}
-use Rattle.search.specs.Search.{findFrom}
+use Rattle.search.specs.Search.{findFrom, orEnd, devcOrEnd}
 use Rattle.search.specs.declared.Found.{Found}
 use Rattle.search.specs.declared.Found.the-variants.{At, Nothing}
 use Rattle.search.proofs.First.{found}
 use Rattle.raw_file.specs.declared.Packet.{Packet}
-use Rattle.raw_file.specs.Packets.{orEnd, devcOrEnd, packetsFrom}
+use Rattle.raw_file.specs.Packets.{packetsFrom}
 use Rattle.raw_file.proofs.Next.{devc-or-end, same-end}
 use Rattle.raw_file.proofs.Window.{stays, goes-on-late}
 use Rattle.window.specs.declared.Places.{Places}

@@ -10,7 +10,8 @@ use borrow.Author.Tests.{lt-ltb, le-ltb}
 use lib.Dec.{ltb}
 use lib.ListN.{length, drop, length-append, length-drop}
 use Rattle.raw_file.specs.declared.Packet.{Packet}
-use Rattle.raw_file.specs.Packets.{devcOrEnd, packetsFrom, nextPacket}
+use Rattle.search.specs.Search.{devcOrEnd}
+use Rattle.raw_file.specs.Packets.{packetsFrom, nextPacket}
 use Rattle.raw_file.specs.Window.{inWindow}
 use Rattle.raw_file.proofs.Cursor.{handed, next-first}
 use Rattle.raw_file.proofs.Moved.{nextOn, next-on, end-on}
