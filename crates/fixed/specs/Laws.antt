@@ -15,7 +15,7 @@ pub record FromTo (a b z : ℤ) : Type 0 where
 
 -- ---- q
 
--- "a signed 16-bit part" and "an unsigned 16-bit part" (document 01, Values)
+-- a "signed 16-bit part" and an "unsigned 16-bit part" (document 01, Values)
 pub record Parts15-16 (high : ℤ) (low : ℕ) : Type 0 where
   pub signed : FromTo (negℤ (pos 32768)) (pos 32767) high
   pub unsigned : low < 65536
@@ -46,7 +46,7 @@ Attained = (q15-16 (pos 16384) 64 ≡ ofInt binary32 (pos 16384)) × ((p q : ℕ
 
 -- ---- Q
 
--- "a signed 32-bit part" and "an unsigned 32-bit part" (document 01, Values)
+-- a "signed 32-bit part" and an "unsigned 32-bit part" (document 01, Values)
 pub record Parts31-32 (high : ℤ) (low : ℕ) : Type 0 where
   pub signed : FromTo (negℤ (pos 2147483648)) (pos 2147483647) high
   pub unsigned : low < 4294967296
