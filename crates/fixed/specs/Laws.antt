@@ -55,6 +55,7 @@ pub record Parts31-32 (high : ℤ) (low : ℕ) : Type 0 where
 abbrev pub WithinTwoToMinus22 : Type 0
 WithinTwoToMinus22 = (high : ℤ) (low : ℕ) → Parts31-32 high low → Within (q31-32 high low) (q31-32-exact high low) 1 (2 ^ 22)
 
--- "Q with parts 0 and 4294967295: exactly 1" (document 01, Cases, 8), the f64 and the exact form
+-- "Q with parts 0 and 4294967295: exactly 1" (document 01, Cases, 8), the f64 and the exact form; kept beside the list in `theorems`, which has the f64 alone, for
+-- the edit that puts another low part into it
 abbrev pub Case8 : Type 0
 Case8 = (q31-32 (pos 0) 4294967295 ≡ ofInt binary64 (pos 1)) × Equals (ofInt binary64 (pos 1)) (q31-32-exact (pos 0) 4294967295)
