@@ -1,16 +1,16 @@
--- Document 01's case 10, and what the definitions come to at their limits, computed. Assumes nothing.
+-- What the definitions come to at their limits, computed; document 01's own case 10 stands in `theorems`. Assumes nothing.
 use Prim.Native.Nat.{ℕ}
 use Prim.Native.Char.{code}
 use mathlib.Core.Path.{_≡_, refl}
 use mathlib.Core.Bool.{true, false}
-use mathlib.Core.List.{List, [], _∷_}
+use mathlib.Core.List.{[], _∷_}
 use lib.IntN.{negsuc}
 use lib.Ieee.{Float, nan, inf, fin, lt}
 use Rattle.foundation.specs.Text.{characters}
 use Rattle.axes.specs.declared.Axes.{Axes}
 use Rattle.axes.specs.declared.Orientations.the-variants as orientations
 use Rattle.axes.specs.declared.Orientation.the-variants.{Is, Refused}
-use Rattle.axes.specs.Matrix.{one, minusOne, nought, entryOf, matrixOf, threeAscii, orientationsOf}
+use Rattle.axes.specs.Matrix.{one, minusOne, nought, entryOf, threeAscii, orientationsOf}
 use Rattle.axes.specs.Back.{half, minusHalf, beyond, lettered, orientationOf, orientationIn}
 use Rattle.axes.specs.ReadBack.{standingIn}
 
@@ -26,21 +26,7 @@ XYZ = axes (code "X") (code "Y") (code "Z")
 abbrev yXZ : Axes
 yXZ = axes (code "y") (code "X") (code "Z")
 
--- ORIN YxZ, ORIO XYZ: 0 -1 0 / 1 0 0 / 0 0 1, back yXZ
-abbrev pub rows10 : List (List Float)
-rows10 = (nought ∷ minusOne ∷ nought ∷ []) ∷ (one ∷ nought ∷ nought ∷ []) ∷ (nought ∷ nought ∷ one ∷ []) ∷ []
-
--- CASE 10: the texts, the matrix, and back
-pub record Case10 : Type 0 where
-  pub texts : orientationsOf (characters "YxZ") (characters "XYZ") ≡ orientations.Are YxZ XYZ
-  pub matrix : matrixOf YxZ XYZ ≡ rows10
-  pub back : orientationOf rows10 ≡ Is yXZ
-
-pub case-10 : Case10
-unfolding orientationsOf threeAscii entryOf beyond lettered lt
-case-10 = record { texts = refl; matrix = refl; back = refl }
-
--- and the rule that reading back follows says the same
+-- the rule that reading back follows says of ORIN YxZ and ORIO XYZ what case 10 does: yXZ
 pub rule-10 : standingIn YxZ XYZ ≡ yXZ
 rule-10 = refl
 

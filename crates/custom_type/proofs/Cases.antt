@@ -1,4 +1,4 @@
--- Case 7 of document 01, and what its words leave to the reader, each line by computing. Assumes nothing.
+-- What document 01's words on expansion leave to the reader, each line by computing; its own case 7 stands in `theorems`. Assumes nothing.
 use Prim.Native.Char.{code}
 use mathlib.Core.Path.{_≡_, refl}
 use mathlib.Core.List.{[], _∷_}
@@ -10,30 +10,6 @@ use Rattle.custom_type.specs.Number.{readable, withoutPlus}
 use Rattle.custom_type.specs.Expansion.{copied, step, goneThrough, expanded}
 use Rattle.custom_type.specs.Resolved.{told}
 use Rattle.custom_type.proofs.Plain.{large}
-
-pub record Case7 : Type 0 where
-  pub three : expanded (characters "f[3]") ≡ characters "fff"
-  pub none : expanded (characters "f[0]") ≡ characters "f"
-  pub plus : expanded (characters "f[+5]") ≡ characters "fffff"
-  pub nothing-yet : expanded (characters "[3]f") ≡ characters "f"
-  pub minus : expanded (characters "f[-2]") ≡ characters "f"
-  pub goes-on : expanded (characters "f[3[4]") ≡ characters "ffffffffffffffffffffffffffffffffff"
-  pub left-open : expanded (characters "Lff[2") ≡ characters "Lff"
-  pub over-64-bits : expanded (characters "f[18446744073709551616]") ≡ characters "f"
-
-pub case-7 : Case7
-unfolding expanded goneThrough step copied readable withoutPlus worthOf
-case-7 =
-    record {
-      three = refl;
-      none = refl;
-      plus = refl;
-      nothing-yet = refl;
-      minus = refl;
-      goes-on = refl;
-      left-open = refl;
-      over-64-bits = refl;
-    }
 
 -- runs of the published code agree with each of these
 pub record Edges : Type 0 where

@@ -1,4 +1,4 @@
--- Texts whose dates are computed from the definition: case 9 of document 01, and its rules for dates. Assumes nothing.
+-- Texts whose dates are computed from the definition, by document 01's rules for dates; its own case 9 stands in `theorems`. Assumes nothing.
 use Prim.Native.String.{String}
 use mathlib.Core.Path.{_≡_, refl}
 use mathlib.Core.List.{List, [], _∷_, map}
@@ -12,11 +12,6 @@ use Rattle.dates.specs.Date.{dateOf, refusal}
 
 abbrev pub date : String → Date
 date text = dateOf (characters text)
-
--- CASE 9
-pub case-9 : (date "240229120000.000" ≡ Milliseconds 1709208000000) × (date "230229120000.000" ≡ Milliseconds 0)
-unfolding dateOf dayOf timeOf year unsigned worthOf millisecondsOf possibleDay possibleTime daysOfMonth daysOfMonths daysOfYear daysOfYears
-case-9 = (refl, refl)
 
 -- a text and its date
 abbrev pub Row : Type 0

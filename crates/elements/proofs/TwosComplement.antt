@@ -12,7 +12,7 @@ use mir.Val.{hbits, SFits, ofZ, toZ}
 use mir.ValLaws.{toZ-ofZ}
 use Rattle.elements.specs.Element.{signedOf}
 
-signed-below : (half n : ℕ) → n < half + half → mag (signedOf half n) < half
+pub signed-below : (half n : ℕ) → n < half + half → mag (signedOf half n) < half
 signed-below half n h = go (ltb n half) refl
   where
     go : (b : Bool) → ltb n half ≡ b → mag (cond b (pos n) (negsuc (half + half - 1 - n))) < half

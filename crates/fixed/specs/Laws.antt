@@ -15,7 +15,7 @@ pub record FromTo (a b z : ℤ) : Type 0 where
 
 -- ---- q
 
--- "a signed 16-bit part" and "an unsigned 16-bit part" (document 01, Values)
+-- a "signed 16-bit part" and an "unsigned 16-bit part" (document 01, Values)
 pub record Parts15-16 (high : ℤ) (low : ℕ) : Type 0 where
   pub signed : FromTo (negℤ (pos 32768)) (pos 32767) high
   pub unsigned : low < 65536
@@ -46,7 +46,7 @@ Attained = (q15-16 (pos 16384) 64 ≡ ofInt binary32 (pos 16384)) × ((p q : ℕ
 
 -- ---- Q
 
--- "a signed 32-bit part" and "an unsigned 32-bit part" (document 01, Values)
+-- a "signed 32-bit part" and an "unsigned 32-bit part" (document 01, Values)
 pub record Parts31-32 (high : ℤ) (low : ℕ) : Type 0 where
   pub signed : FromTo (negℤ (pos 2147483648)) (pos 2147483647) high
   pub unsigned : low < 4294967296
@@ -55,6 +55,7 @@ pub record Parts31-32 (high : ℤ) (low : ℕ) : Type 0 where
 abbrev pub WithinTwoToMinus22 : Type 0
 WithinTwoToMinus22 = (high : ℤ) (low : ℕ) → Parts31-32 high low → Within (q31-32 high low) (q31-32-exact high low) 1 (2 ^ 22)
 
--- "Q with parts 0 and 4294967295: exactly 1" (document 01, Cases, 8), the f64 and the exact form
+-- "Q with parts 0 and 4294967295: exactly 1" (document 01, Cases, 8), the f64 and the exact form; kept beside the list in `theorems`, which has the f64 alone, for
+-- the edit that puts another low part into it
 abbrev pub Case8 : Type 0
 Case8 = (q31-32 (pos 0) 4294967295 ≡ ofInt binary64 (pos 1)) × Equals (ofInt binary64 (pos 1)) (q31-32-exact (pos 0) 4294967295)

@@ -41,17 +41,20 @@ pub data Found : Type 0 where
   found : KLV → List ℕ → List ℕ → Found
   stopped : ℕ → ℕ → Found
 
+-- 12: no such TYPE at the place named; else what is answered of its text
+abbrev pub unlessBad : Named → ℕ → (List ℕ → Found) → Found
+unlessBad (named type) at answer = answer type
+unlessBad bad at answer = stopped refusals.noItem at
+
 -- 2: the item's payload runs past the end of what was lent
 abbrev pub overIf : Named → ℕ → Found
-overIf (named type) at = stopped refusals.pastEnd at
-overIf bad at = stopped refusals.noItem at
+overIf n at = unlessBad n at (λ type. stopped refusals.pastEnd at)
 
--- an item whose payload is all there, by the TYPE that it asks for
+-- an item whose payload is all there, with the text of the TYPE that it asks for
 abbrev pub wholeIf : Named → KLV → List ℕ → ℕ → Found
-wholeIf (named type) h payload at = found h payload type
-wholeIf bad h payload at = stopped refusals.noItem at
+wholeIf n h payload at = unlessBad n at (found h payload)
 
--- 12: no 8 header bytes or length 0 at the place asked, or no such TYPE at the place named
+-- 12: no 8 header bytes or length 0 at the place asked
 abbrev pub foundBy : First → List ℕ → ℕ → ℕ → Found
 foundBy few s at typePlace = stopped refusals.noItem at
 foundBy past s at typePlace = overIf (typeFor (headerOf (drop at s) .«data_type») s typePlace) at

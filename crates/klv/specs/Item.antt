@@ -1,6 +1,6 @@
 -- An item: a header of eight bytes, its payload and its padding, laid out and read from the front of some bytes.
 -- GPMF description, Key, length, value; document 01, Items and the walk. Assumes nothing: these are definitions.
-use Prim.Native.Nat.{ℕ, _+_, _*_, _/_, _≤_, _<_, _^_}
+use Prim.Native.Nat.{ℕ, _+_, _-_, _*_, _/_, _≤_, _<_, _^_}
 use mathlib.Core.Path.{_≡_}
 use mathlib.Core.List.{List, [], _∷_, _++_}
 use mathlib.Core.Bool.{cond}
@@ -17,13 +17,17 @@ headerOf s = record { key = bigEndian (take 4 s); «data_type» = getD s 4 0; si
 abbrev pub dataLen : KLV → ℕ
 dataLen h = h .size * h .repeat
 
--- a length with its padding to a multiple of 4
-abbrev pub aligned : ℕ → ℕ
-aligned n = (n + 3) / 4 * 4
-
 -- "The 8 of the header": a key of 4 bytes, a type byte, a size byte, a repeat of 2 (document 01, Items and the walk)
 abbrev pub headerLength : ℕ
 headerLength = 8
+
+-- "the 4 of the padding" (document 01, Items and the walk)
+abbrev pub alignment : ℕ
+alignment = 4
+
+-- a length with its "padding to a multiple of 4" (document 01, Items and the walk)
+abbrev pub aligned : ℕ → ℕ
+aligned n = (n + (alignment - 1)) / alignment * alignment
 
 -- what stands first in some bytes
 pub data First : Type 0 where

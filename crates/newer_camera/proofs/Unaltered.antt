@@ -141,7 +141,7 @@ module _ (forced : Bool) where
       go : (role : Role) → Means g role
           → answer (byRole own forced g other was (walk forced inner) here room role) ≡ answer (byRole own forced g grown was (walk forced within) here room role)
       go empty k = refl
-      go container k = by-entry (entry forced here was)
+      go container k = by-entry (entry forced (here .depth) (here .group) was)
       go typeItem k = absurd (k .1 (m .still-container))
       go rowItem k = absurd (k .1 (m .still-container))
 

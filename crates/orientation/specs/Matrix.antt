@@ -1,6 +1,6 @@
 -- What a MTRX gives: the numbers of its first row, where it is nested f32 numbers. Any other serves for none, as the Rust's `get_t` finds a value only under
 -- the type asked for (document 01, Values; Axes and durations; Refusal numbers, 10). Assumes nothing: these are definitions.
-use Prim.Native.Nat.{ℕ, zero, suc, _/_}
+use Prim.Native.Nat.{ℕ, zero, suc}
 use Prim.Native.Char.{code}
 use mathlib.Core.Bool.{Bool, false, cond, _&&_, _||_}
 use mathlib.Core.List.{List, [], _∷_, _++_}
@@ -12,6 +12,7 @@ use Rattle.axes.specs.declared.Orientation.the-variants as orientation
 use Rattle.axes.specs.Back.{orientationIn}
 use Rattle.klv.specs.declared.KLV.{KLV}
 use Rattle.elements.specs.declared.Element.the-variants.{Signed, Unsigned, Single, Double}
+use Rattle.value.specs.Value.{perRow, isNested}
 use Rattle.value.specs.declared.Read.{Read}
 use Rattle.value.specs.declared.Read.the-variants as read
 use Rattle.tagged.specs.Read.{readAt}
@@ -24,13 +25,9 @@ use Rattle.orientation.specs.declared.Oriented.the-variants.{Is, Nothing
 abbrev pub isSingle : ℕ → Bool
 isSingle letter = eqb letter (code "f") || eqb letter (code "q")
 
--- two or more than four in a row: one, three and four are other kinds, and a row of none names nothing
-abbrev pub isNested : ℕ → Bool
-isNested columns = eqb columns 2 || ltb 4 columns
-
--- the numbers in a row: size / width, rounded down
-abbrev pub columnsOf : KLV → ℕ
-columnsOf h = h .size / 4
+-- nested, with a column or more: a row of none names nothing
+abbrev pub serves : ℕ → Bool
+serves columns = isNested columns && ltb 0 columns
 
 -- ---- its first row
 
@@ -60,4 +57,4 @@ told (orientation.Refused number place) = Refused number place
 
 -- of the item with a header, by its first row
 abbrev pub byMatrix : KLV → (ℕ → Read) → Oriented
-byMatrix h row = cond (isSingle (h .«data_type») && isNested (columnsOf h)) (told (orientationIn (singlesOf row (columnsOf h)))) Nothing
+byMatrix h row = cond (isSingle (h .«data_type») && serves (perRow h)) (told (orientationIn (singlesOf row (perRow h)))) Nothing

@@ -10,11 +10,12 @@ use klv::wide;
 use tagged::Tagged;
 use value::Read;
 ghost use mathlib.Core.Path.{_≡_};
+ghost use Prim.Native.Nat.{_/_};
 ghost use Rattle.foundation.specs.Text.{key};
 ghost use Rattle.keys.specs.Tags.{orientationInTag, orientationOutTag};
 ghost use Rattle.klv.specs.Header.{headerAt};
 ghost use Rattle.tagged.specs.Tagged.{taggedOf};
-ghost use Rattle.orientation.specs.Matrix.{isSingle, isNested, columnsOf, singleOf, singlesOf, firstRow, told, byMatrix};
+ghost use Rattle.orientation.specs.Matrix.{isSingle, serves, singleOf, singlesOf, firstRow, told, byMatrix};
 ghost use Rattle.orientation.specs.Texts.{TextEnd, byOrientations, byTexts};
 ghost use Rattle.orientation.specs.Group.{byPair, orientationOfGroup};
 
@@ -91,8 +92,8 @@ fn is_single(letter: u8) -> bool
 }
 
 // Whether so many numbers in a row make a value nested, and name something.
-fn is_nested(columns: usize) -> bool
-    ensures { λ r. ⌜ r ≡ isNested columns ⌝ }
+fn serves(columns: usize) -> bool
+    ensures { λ r. ⌜ r ≡ serves columns ⌝ }
 {
     if columns == 2 {
         return true;
@@ -105,7 +106,7 @@ fn is_nested(columns: usize) -> bool
 
 // How many numbers of four bytes a row has.
 fn columns_of(klv: KLV) -> usize
-    ensures { λ r. ⌜ r ≡ columnsOf klv ⌝ }
+    ensures { λ r. ⌜ r ≡ klv .size / 4 ⌝ }
 {
     wide(klv.size) / 4
 }
@@ -116,7 +117,7 @@ fn by_matrix(s: &[u8], at: usize, klv: KLV) -> Oriented
 {
     let columns = columns_of(klv);
     if is_single(klv.data_type) {
-        if is_nested(columns) {
+        if serves(columns) {
             if columns == 9 {
                 let mtrx = nine(s, at);
                 return told_by(axes::mtrx_to_orientation(&mtrx));

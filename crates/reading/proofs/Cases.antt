@@ -1,5 +1,5 @@
--- Document 01's cases 1 to 6, 11 and 12, and samples of what is easy to get wrong and of the order of refusals, computed by the definitions of the
--- reading, without a call (`theorems` has the cases as the calls answer them). Assumes nothing.
+-- Samples of what is easy to get wrong and of the order of refusals, computed by the definitions of the reading; edits of those definitions are refused by
+-- them. Document 01's own cases stand in `theorems`. Assumes nothing.
 use Prim.Native.Nat.{ℕ, zero, suc}
 use Prim.Native.Char.{code}
 use Prim.Native.String.{String}
@@ -7,7 +7,6 @@ use mathlib.Core.Path.{_≡_, refl}
 use mathlib.Core.Bool.{Bool, true, false}
 use mathlib.Core.List.{List, [], _∷_, _++_, map}
 use lib.ListN.{length}
-use Rattle.foundation.specs.BigEndian.{bytesOf}
 use Rattle.foundation.specs.Fuel.{run, fix}
 use Rattle.foundation.specs.Text.{key, characters}
 use Rattle.keys.specs.Keys.{tags}
@@ -16,11 +15,12 @@ use Rattle.klv.specs.declared.KLV.{KLV}
 use Rattle.klv.specs.Item.{firstItem, laidOut}
 use Rattle.klv.specs.Level.{itemsOf}
 use Rattle.klv.specs.OneText.{oneText, typeText}
-use Rattle.reading.specs.Last.{lastItem, lastReading}
+use Rattle.reading.specs.Refusal.{leftOver, pastEnd}
+use Rattle.reading.specs.Last.{Last, last, stopped, lastItem, lastReading}
 use Rattle.reading.specs.Record.{numbers, noPlace}
 use Rattle.reading.specs.Walk.{roleOf, itemOutcome, walk, readingOf}
 use Rattle.reading.specs.Front.{madeBefore, recordsBefore}
-use Rattle.reading.specs.Answer.{Answer, rows, noLastItem, theItem, refusal, answer, lastAnswer}
+use Rattle.reading.specs.Answer.{Answer, rows, refusal, answer}
 
 -- ---- payloads
 
@@ -59,73 +59,44 @@ describes = item "TYPE" (code "c") 1 1 (characters "B") ++ padding
 abbrev described : List ℕ
 described = item "ABCD" (code "?") 1 1 (9 ∷ []) ++ padding
 
--- case 12's payload, as document 01 gives it
-abbrev twelve : List ℕ
-twelve = bytesOf 28 0x5354524d_00_01_0014_5343414c_73_02_0001_00010000_4759524f_73_06_0000
-
 -- a row, in the order of document 01
 abbrev row : ℕ → ℕ → ℕ → ℕ → ℕ → ℕ → ℕ → ℕ → List ℕ
 row place kind group tag k shape type depth = place ∷ kind ∷ group ∷ tag ∷ k ∷ shape ∷ type ∷ depth ∷ []
 
--- ---- cases
-
-pub data Case : Type 0 where
-  reads : List ℕ → Bool → Answer → Case  -- a payload, whether the caller's group is forced, and what the reading comes to
-  chains : List ℕ → Answer → Case  -- a payload, and what its last item comes to
-  before : List ℕ → ℕ → List (List ℕ) → Case  -- a payload, a place, and the rows that the walk has made before it
-
--- what the definitions come to, with room for two records
-abbrev pub comes : Case → Answer
-comes (reads payload forced said) = answer (readingOf forced payload 2)
-comes (chains payload said) = lastAnswer (lastReading payload)
-comes (before payload place said) = rows (map numbers (recordsBefore place false payload 2)) 0
-
--- what document 01 says
-abbrev pub says : Case → Answer
-says (reads payload forced said) = said
-says (chains payload said) = said
-says (before payload place said) = rows said 0
-
-abbrev pub cases : List Case
-cases =
-    -- 1
-    reads [] false (rows [] 0)
-    ∷ chains [] noLastItem
-    -- 2
-    ∷ reads seven false (rows [] 0)
-    ∷ chains seven (refusal 3 0)
-    -- 3
-    ∷ reads (item "ABCD" (code "B") 5 1 five) false (rows (row 0 0 0 0 (key "ABCD") 0x42_05_0001 noPlace 0 ∷ []) 1)
-    -- 4
-    ∷ reads (item "ABCD" (code "B") 6 1 five) false (refusal 2 0)
-    -- 5
-    ∷ reads (item "GYRO" (code "s") 6 0 []) false (rows [] 1)
-    ∷ chains (item "GYRO" (code "s") 6 0 []) (theItem 0 (header "GYRO" (code "s") 6 0))
-    -- 6
-    ∷ reads (holding "STRM" four) false (refusal 3 0)
-    ∷ reads (holding "STRM" four) true (rows [] 1)
-    -- 11
-    ∷ reads (round 16 (item "GYRO" (code "B") 1 1 (7 ∷ []))) false (rows (row 128 1 (key "GYRO") 1 (key "GYRO") 0x42_01_0001 noPlace 16 ∷ []) 33)
-    ∷ reads (round 17 (item "GYRO" (code "B") 1 1 (7 ∷ []))) false (refusal 4 0)
-    -- 12
-    ∷ reads twelve false (rows (row 8 1 (key "GYRO") 4 (key "SCAL") 0x73_02_0001 noPlace 1 ∷ []) 5)
-    ∷ []
-
-pub as-document-01-says : map comes cases ≡ map says cases
-unfolding fix run found tags firstItem itemsOf oneText typeText lastItem lastReading numbers roleOf itemOutcome walk readingOf
-as-document-01-says = refl
-
 -- ---- samples
+
+pub data Sample : Type 0 where
+  reads : List ℕ → Bool → Answer → Sample  -- a payload, whether the caller's group is forced, and what the reading comes to
+  chains : List ℕ → Last → Sample  -- a payload, and its last item
+  before : List ℕ → ℕ → List (List ℕ) → Sample  -- a payload, a place, and the rows that the walk has made before it
+
+-- what a sample comes to
+pub data Result : Type 0 where
+  reading : Answer → Result
+  chain : Last → Result
+  made : List (List ℕ) → Result
+
+-- by the definitions, with room for two records
+abbrev pub comes : Sample → Result
+comes (reads payload forced said) = reading (answer (readingOf forced payload 2))
+comes (chains payload said) = chain (lastReading payload)
+comes (before payload place said) = made (map numbers (recordsBefore place false payload 2))
+
+-- by document 01
+abbrev pub says : Sample → Result
+says (reads payload forced said) = reading said
+says (chains payload said) = chain said
+says (before payload place said) = made said
 
 -- the row of that `?` item
 abbrev question : ℕ → ℕ → ℕ → ℕ → ℕ → List ℕ
 question place kind group type depth = row place kind group 0 (key "ABCD") 0x3f_01_0001 type depth
 
-abbrev pub samples : List Case
+abbrev pub samples : List Sample
 samples =
     -- padding is stepped over between items, and what is missing after the last one is not asked for
     reads (described ++ item "ABCD" (code "?") 1 1 (9 ∷ [])) false (rows (question 0 0 0 noPlace 0 ∷ question 12 0 0 noPlace 0 ∷ []) 2)
-    ∷ chains (described ++ item "SCAL" (code "B") 1 1 (9 ∷ [])) (theItem 12 (header "SCAL" (code "B") 1 1))
+    ∷ chains (described ++ item "SCAL" (code "B") 1 1 (9 ∷ [])) (last 12 (header "SCAL" (code "B") 1 1))
     -- a TYPE is in force for later items of its level, and not for those before it
     ∷ reads (described ++ describes ++ described) false (rows (question 0 0 0 noPlace 0 ∷ question 24 0 0 12 0 ∷ []) 3)
     -- of two the later one is
@@ -153,8 +124,8 @@ samples =
     ∷ reads (described ++ holding "DEVC" (described ++ holding "STRM" four)) false (refusal 3 12)
     ∷ before (described ++ holding "DEVC" (described ++ holding "STRM" four)) 12 (question 0 0 0 noPlace 0 ∷ [])
     -- the chain's is where it stops
-    ∷ chains (described ++ seven) (refusal 3 12)
-    ∷ chains (described ++ item "ABCD" (code "B") 6 1 five) (refusal 2 12)
+    ∷ chains (described ++ seven) (stopped leftOver 12)
+    ∷ chains (described ++ item "ABCD" (code "B") 6 1 five) (stopped pastEnd 12)
     -- a third row does not fit, at any depth, and its item comes before the next; an empty item and a TYPE take no room
     ∷ reads (described ++ described ++ described) false (refusal 5 24)
     ∷ reads (described ++ holding "STRM" (described ++ described) ++ item "ABCD" (code "B") 6 1 five) false (refusal 5 12)

@@ -114,7 +114,7 @@ module _ (forced : Bool) where
   same-item empty h payload within chain here room inner = ap (accepted []) (own-is (here .depth))
   same-item typeItem h payload within chain here room inner = ap (accepted []) (own-is (here .depth))
   same-item rowItem h payload within chain here room inner = more-row room (headersFor forced (here .depth)) (chained (here .depth)) 1 (recordOf here h payload) (own-is (here .depth))
-  same-item container h payload within chain here room inner = by-entry (entry forced here chain)
+  same-item container h payload within chain here room inner = by-entry (entry forced (here .depth) (here .group) chain)
     where
       by-entry : (x : Entry) → entered (headersFor forced (here .depth)) forced h payload chain (walk forced within) here room x
           ≡ more (chained (here .depth)) (entered (readsAt container forced within) forced h payload chain (walkCounting forced within) here room x)

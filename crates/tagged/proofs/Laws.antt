@@ -1,7 +1,7 @@
 -- The item of a group and tag, by what the lookup tells, and the header that stands there; and one number, by its width. Assumes nothing.
 use Prim.Native.Nat.{ℕ, _/_, _<_, _≤_}
 use mathlib.Core.Path.{_≡_, refl, ap, sym, subst, _∙_}
-use mathlib.Core.Bool.{Bool, true, false, cond, _&&_}
+use mathlib.Core.Bool.{Bool, true, false, cond, _&&_, and-false}
 use mathlib.Core.List.{List, [], _∷_}
 use native.Mathlib.Nat.{div-zero}
 use native.Mathlib.Omega.{arith}
@@ -13,6 +13,7 @@ use Rattle.klv.specs.Header.{told, headerAt}
 use Rattle.klv.specs.declared.KLV.{KLV}
 use Rattle.klv.specs.declared.Header.the-variants as header
 use Rattle.elements.specs.Types.{widthOf}
+use Rattle.value.specs.Value.{perRow, isOne}
 use Rattle.items.specs.At.{Named, named, bad, typeFor, stopped, overIf, wholeIf, foundBy, foundAt}
 use Rattle.values.specs.At.{klvOfFound}
 use Rattle.reading.specs.Walk.{roomOf}
@@ -134,13 +135,14 @@ first-holds false b e = e
 -- one number of a letter is of that letter
 pub number-letter : (h : KLV) (letter : ℕ) → oneNumber h letter ≡ true → h .«data_type» ≡ letter
 unfolding oneNumber
-number-letter h letter e = eqb-true (h .«data_type») letter (first-holds (eqb (h .«data_type») letter) (eqb (h .repeat) 1 && eqb (h .size / widthOf letter) 1) e)
+number-letter h letter e = eqb-true (h .«data_type») letter (first-holds (eqb (h .«data_type») letter) (isOne (h .repeat) (perRow h)) e)
 
 pub no-width : (h : KLV) (letter : ℕ) → widthOf letter ≡ 0 → oneNumber h letter ≡ false
 unfolding oneNumber
-no-width h letter e = none (eqb (h .«data_type») letter) (eqb (h .repeat) 1) (ap (λ (w : ℕ). eqb (h .size / w) 1) e ∙ ap (λ (n : ℕ). eqb n 1) (div-zero (h .size)))
+no-width h letter e = go (eqb (h .«data_type») letter) refl
   where
-    none : (a b : Bool) {d : Bool} → d ≡ false → a && (b && d) ≡ false
-    none true true e = e
-    none true false e = refl
-    none false b e = refl
+    go : (a : Bool) → eqb (h .«data_type») letter ≡ a → a && isOne (h .repeat) (perRow h) ≡ false
+    go false k = refl
+    go true k =
+        let none : widthOf (h .«data_type») ≡ 0 = ap widthOf (eqb-true (h .«data_type») letter k) ∙ e in
+        rw (none, div-zero (h .size)) (and-false (eqb (h .repeat) 1))

@@ -1,6 +1,6 @@
 -- The item that a group has of a tag, and whether its value is one number. Document 01, Items and the walk: "Lookup of a group and tag finds the
 -- last such row"; Values; Refusal numbers. Assumes nothing: these are definitions.
-use Prim.Native.Nat.{ℕ, _/_}
+use Prim.Native.Nat.{ℕ}
 use mathlib.Core.Bool.{Bool, cond, _&&_}
 use mathlib.Core.List.{List}
 use lib.Dec.{eqb, ltb}
@@ -8,7 +8,7 @@ use lib.ListN.{length}
 use Rattle.foundation.specs.Refusals as refusals
 use Rattle.klv.specs.Limits.{mostBytes, noPlace}
 use Rattle.klv.specs.declared.KLV.{KLV}
-use Rattle.elements.specs.Types.{widthOf}
+use Rattle.value.specs.Value.{perRow, isOne}
 use Rattle.items.specs.At.{foundAt}
 use Rattle.values.specs.At.{klvOfFound}
 use Rattle.values.specs.declared.Headed.{Headed}
@@ -42,4 +42,4 @@ taggedOf s rows count groupKind groupKey tag key = cond (ltb mostBytes (length s
 -- ONE NUMBER of a letter: "With n = size / width rounded down: repeat 1 and n 1 is single" (document 01, Values); by type, size and repeat alone, so that
 -- `s` under CORI or IORI, which is quaternions, may be one too
 unfoldable pub oneNumber : KLV → ℕ → Bool
-oneNumber h letter = eqb (h .«data_type») letter && (eqb (h .repeat) 1 && eqb (h .size / widthOf letter) 1)
+oneNumber h letter = eqb (h .«data_type») letter && isOne (h .repeat) (perRow h)

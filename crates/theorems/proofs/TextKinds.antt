@@ -23,7 +23,7 @@ use Rattle.value.specs.declared.Kind.the-variants as kind
 use Rattle.value.specs.declared.Grid.{Grid}
 use Rattle.value.specs.declared.Plan.{Plan}
 use Rattle.value.specs.declared.Plan.the-variants as plan
-use Rattle.value.specs.Value.{Value, ValueOutcome, readable, refused, gridded, numbers, quaternions, text, identifier, unknown, textOf, dated, columnLetters, widthsOf, structured, structures, isQuaternions, kindOf, letterPlan, planOf, valueBy, valueOf}
+use Rattle.value.specs.Value.{Value, ValueOutcome, readable, refused, gridded, numbers, quaternions, text, identifier, unknown, textOf, dated, columnLetters, widthsOf, structured, structures, isQuaternions, isOne, isNested, kindOf, letterPlan, planOf, valueBy, valueOf}
 use Rattle.parts.specs.Parts.{RowText, none, rowText}
 use Rattle.parts.specs.Parts as Parts
 
@@ -122,14 +122,14 @@ module _ (h : KLV) (payload : List ℕ) where
 
   numbers-of : (repeat n : ℕ) → isText (kindOf repeat n) ≡ false
   unfolding kindOf
-  numbers-of repeat n = go (eqb n 1) (eqb repeat 1) (eqb n 3) (eqb n 4)
+  numbers-of repeat n = go (isOne repeat n) (isNested n) (eqb n 1) (eqb n 3)
     where
-      go : (a b c d : Bool) → isText (cond a (cond b kind.Single kind.List) (cond c kind.Vector (cond d kind.TimedVector kind.Nested))) ≡ false
-      go true true c d = refl
-      go true false c d = refl
-      go false b true d = refl
-      go false b false true = refl
-      go false b false false = refl
+      go : (a b c d : Bool) → isText (cond a kind.Single (cond b kind.Nested (cond c kind.List (cond d kind.Vector kind.TimedVector)))) ≡ false
+      go true b c d = refl
+      go false true c d = refl
+      go false false true d = refl
+      go false false false true = refl
+      go false false false false = refl
 
   letter-of : ofPlan (letterPlan letter) ≡ isC
   unfolding letterPlan

@@ -56,16 +56,26 @@ abbrev pub gridded : Grid → List ℕ → ValueOutcome
 gridded g payload =
     wanting (g .rows * g .columns * widthOf (g .letter)) payload (record { kind = g .kind; rows = g .rows; columns = λ row. g .columns; element = placed g payload })
 
--- with n elements for each repeat: repeat 1 and n 1 is single, n 1 list, 3 vector, 4 timed vector, other n (also 0) nested
+-- the elements for each repeat: "n = size / width rounded down" (document 01, Values)
+abbrev pub perRow : KLV → ℕ
+perRow h = h .size / widthOf (h .«data_type»)
+
+-- "repeat 1 and n 1 is single, .." (document 01, Values)
+abbrev pub isOne : ℕ → ℕ → Bool
+isOne repeat n = eqb repeat 1 && eqb n 1
+
+-- ".. other n (also 0) nested" (document 01, Values)
+abbrev pub isNested : ℕ → Bool
+isNested n = not (eqb n 1 || (eqb n 3 || eqb n 4))
+
+-- ".. n 1 list, 3 vector, 4 timed vector, .." (document 01, Values)
 unfoldable pub kindOf : ℕ → ℕ → Kind
 kindOf repeat n =
-    cond (eqb n 1) (cond (eqb repeat 1) kind.Single kind.List) (cond (eqb n 3) kind.Vector (cond (eqb n 4) kind.TimedVector kind.Nested))
+    cond (isOne repeat n) kind.Single (cond (isNested n) kind.Nested (cond (eqb n 1) kind.List (cond (eqb n 3) kind.Vector kind.TimedVector)))
 
--- numbers: n = size / width rounded down
+-- numbers, n to a row
 abbrev pub numbers : KLV → Grid
-numbers h =
-    let n = h .size / widthOf (h .«data_type») in
-    record { kind = kindOf (h .repeat) n; rows = h .repeat; columns = n; letter = h .«data_type» }
+numbers h = record { kind = kindOf (h .repeat) (perRow h); rows = h .repeat; columns = perRow h; letter = h .«data_type» }
 
 -- s under key CORI or IORI: four numbers w x y z per repeat, size not looked at
 unfoldable pub isQuaternions : KLV → Bool

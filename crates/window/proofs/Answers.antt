@@ -3,6 +3,7 @@ use Prim.Native.Nat.{ℕ, _+_, _-_, _<_, _≤_, max}
 use mathlib.Core.Path.{_≡_, _∙_, sym, ap}
 use mathlib.Core.List.{List}
 use mathlib.Core.Bool.{Bool, true, false, cond}
+use native.Mathlib.Omega.{arith}
 use borrow.Author.Tests.{lt-ltb, le-ltb}
 use lib.Dec.{ltb}
 use lib.ListN.{length}
@@ -15,10 +16,14 @@ use Rattle.raw_file.specs.declared.InWindow.{InWindow}
 use Rattle.window.specs.declared.Places.{Places}
 use Rattle.window.specs.declared.Step.{Step}
 use Rattle.window.specs.declared.Step.the-variants.{Held, Long, Read}
-use Rattle.window.specs.Steps.{mostHeld, lastBytes, overHeld, inFile, cutFrom, readFrom, tellPacket, overlapping, readPast, tellNext, tellLong, seekEnd, nextStep}
+use Rattle.window.specs.Steps.{mostHeld, lastBytes, overHeld, inFile, startAt, cutFrom, readFrom, tellPacket, overlapping, readPast, tellNext, tellLong, seekEnd, nextStep}
+
+-- the code wraps at the DEVC and again at the start of its packet
+wrapped : (base devc : ℕ) → inFile (inFile base devc) 8 ≡ startAt base devc
+wrapped base devc = omega arith
 
 pub overlaps : (base : ℕ) (found : Found) (at x y : ℕ) → found ≡ At at → x ≡ inFile base at → y ≡ inFile x 8 → y ≡ overlapping base found
-overlaps base found at x y is e f = f ∙ ap (λ k. inFile k 8) e ∙ sym (ap (overlapping base) is)
+overlaps base found at x y is e f = f ∙ ap (λ k. inFile k 8) e ∙ wrapped base at ∙ sym (ap (overlapping base) is)
 
 module _ (p : Places) where
   pub reads-from : (from base : ℕ) → base ≡ inFile (p .base) from → Read from (record { base = base; at = 0; first = p .first; second = p .second }) ≡ readFrom p from
@@ -52,7 +57,7 @@ module _ (p : Places) where
           → second ≡ overlapping (p .base) found → answer ≡ readFrom (record { base = p .base; at = p .at; first = first; second = second }) (length bytes - lastBytes)
           → answer ≡ readPast bytes p from
       seeks-both middle first second found m f is s e =
-          e ∙ (λ i. readFrom (record { base = p .base; at = p .at; first = (f ∙ ap (λ k. inFile k 8) m) i; second = (s ∙ ap (overlapping (p .base)) is) i }) (length bytes - lastBytes))
+          e ∙ (λ i. readFrom (record { base = p .base; at = p .at; first = (f ∙ ap (λ k. inFile k 8) m ∙ wrapped (p .base) from) i; second = (s ∙ ap (overlapping (p .base)) is) i }) (length bytes - lastBytes))
 
     module _ (more : Bool) (answer : Step) where
       -- an end is sought

@@ -1,6 +1,6 @@
 -- A step past a packet over what is held: it and the one that overlaps it end where the next DEVC is found, sought from the last bytes on.
 -- Assumes nothing.
-use Prim.Native.Nat.{ℕ, _+_, _-_, _<_, _≤_, _%_, _^_}
+use Prim.Native.Nat.{ℕ, _+_, _-_, _<_, _≤_, _^_}
 use mathlib.Core.Path.{_≡_, refl, _∙_, sym, ap}
 use mathlib.Core.List.{List, _∷_, _++_}
 use mathlib.Core.Bool.{Bool, true, false}
@@ -105,11 +105,8 @@ module _ (file : List ℕ) (small : length file < 2 ^ 64) {window toCome : List 
 
   start-at : (at : ℕ) → at + 8 ≤ length window → startAt (p .base) at ≡ at + 8 + p .base
   start-at at h =
-      let one : inFile (p .base) at ≡ p .base + at = in-file file stands small at (omega arith) in
-      let two : inFile (p .base) (at + 8) ≡ p .base + (at + 8) = in-file file stands small (at + 8) h in
-      let q : p .base + at + 8 ≡ p .base + (at + 8) = omega arith in
       let turn : p .base + (at + 8) ≡ at + 8 + p .base = omega arith in
-      ap (λ k. inFile k 8) one ∙ ap (λ k. k % 2 ^ 64) q ∙ two ∙ turn
+      in-file file stands small (at + 8) h ∙ turn
 
   -- what is left behind the first
   seconds : (f : Found) → findFrom window (from + 1) ≡ f

@@ -36,7 +36,7 @@ inFile base at = (base + at) % 2 ^ 64
 
 -- where the packet starts in the file whose DEVC stands at a place of the window: 8 past it
 abbrev pub startAt : ℕ → ℕ → ℕ
-startAt base devc = inFile (inFile base devc) 8
+startAt base devc = inFile base (devc + 8)
 
 -- the same window with no end sought, to be cut on from a place
 abbrev pub cutFrom : Places → ℕ → Places

@@ -1,5 +1,5 @@
 -- `by_matrix` meets its contract, by the tests of its header. Assumes nothing.
-use Rattle.orientation.proofs.Matrices.{not-single, not-nested, by-nine, other-count}
+use Rattle.orientation.proofs.Matrices.{not-single, not-served, by-nine, other-count}
 use Rattle.orientation.specs.Matrix.{firstRow}
 use mathlib.Core.Path.{sym}
 use borrow.Author.Needs.{needs}
@@ -12,8 +12,8 @@ columns-of-requires c κs = search needs
 is-single-requires : tie.Need-is-single-requires
 is-single-requires c κs = search needs
 
-is-nested-requires : tie.Need-is-nested-requires
-is-nested-requires c κs = search needs
+serves-requires : tie.Need-serves-requires
+serves-requires c κs = search needs
 
 nine-requires : tie.Need-nine-requires
 nine-requires c κs = search needs
@@ -30,17 +30,17 @@ told-by-requires c κs = search needs
 returns : tie.Need-returns
 returns c =
     let a = c .before .before .before .before .before .before .before .before .before .before .before .args in
-    by-nine (a .klv) (firstRow (a .s .now) (a .at)) (c .before .before .before .before .before .before .before .before .before .columns-of .ensures) (c .before .before .before .before .before .before .before .before .is-single .ensures) (c .before .before .before .before .before .before .is-nested .ensures) (c .before .before .before .before .before .before .before .if1 .taken) (c .before .before .before .before .before .if2 .taken) _ _ _ (c .before .before .before .before .if3 .taken) (c .before .before .before .nine .ensures) (c .before .mtrx-to-orientation .ensures) (c .told-by .ensures)
+    by-nine (a .klv) (firstRow (a .s .now) (a .at)) (c .before .before .before .before .before .before .before .before .before .columns-of .ensures) (c .before .before .before .before .before .before .before .before .is-single .ensures) (c .before .before .before .before .before .before .serves .ensures) (c .before .before .before .before .before .before .before .if1 .taken) (c .before .before .before .before .before .if2 .taken) _ _ _ (c .before .before .before .before .if3 .taken) (c .before .before .before .nine .ensures) (c .before .mtrx-to-orientation .ensures) (c .told-by .ensures)
 
 returns-2 : tie.Need-returns-2
 returns-2 c =
     let a = c .before .before .before .before .before .before .before .args in
-    sym (other-count (a .klv) (firstRow (a .s .now) (a .at)) (c .before .before .before .before .before .columns-of .ensures) (c .before .before .before .before .is-single .ensures) (c .before .before .is-nested .ensures) (c .before .before .before .if1 .taken) (c .before .if2 .taken) (c .if3 .left))
+    sym (other-count (a .klv) (firstRow (a .s .now) (a .at)) (c .before .before .before .before .before .columns-of .ensures) (c .before .before .before .before .is-single .ensures) (c .before .before .serves .ensures) (c .before .before .before .if1 .taken) (c .before .if2 .taken) (c .if3 .left))
 
 returns-3 : tie.Need-returns-3
 returns-3 c =
     let a = c .before .before .before .before .before .before .args in
-    sym (not-nested (a .klv) (firstRow (a .s .now) (a .at)) (c .before .before .before .before .columns-of .ensures) (c .before .before .before .is-single .ensures) (c .before .is-nested .ensures) (c .before .before .if1 .taken) (c .if2 .left))
+    sym (not-served (a .klv) (firstRow (a .s .now) (a .at)) (c .before .before .before .before .columns-of .ensures) (c .before .before .before .is-single .ensures) (c .before .serves .ensures) (c .before .before .if1 .taken) (c .if2 .left))
 
 returns-4 : tie.Need-returns-4
 returns-4 c =
@@ -53,7 +53,7 @@ by-matrix-spec =
     (tie.spec
     columns-of-requires
     is-single-requires
-    is-nested-requires
+    serves-requires
     nine-requires
     slice-aggregate-mtrx-to-orientation
     mtrx-to-orientation-requires
