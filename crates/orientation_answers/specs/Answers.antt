@@ -11,7 +11,7 @@ use Rattle.axes.specs.declared.Orientations.{Orientations}
 use Rattle.axes.specs.declared.Orientations.the-variants as texts
 use Rattle.orientation.specs.declared.Oriented.{Oriented}
 use Rattle.orientation.specs.declared.Oriented.the-variants as oriented
-use Rattle.quaternions.specs.declared.Quaternion.{Quaternion}
+use Rattle.scaling.specs.declared.Quaternion.{Quaternion}
 use Rattle.quaternions.specs.declared.ScaledRow.{ScaledRow}
 use Rattle.quaternions.specs.declared.ScaledRow.the-variants as scaled
 use Rattle.answer_kinds.specs.Kinds.{refused, is, nothing, nought}

@@ -6,8 +6,8 @@ use axes::Axes;
 use axes::Orientation;
 use axes::Orientations;
 use orientation::Oriented;
-use quaternions::Quaternion;
 use quaternions::ScaledRow;
+use scaling::Quaternion;
 ghost use mathlib.Core.Path.{_≡_};
 ghost use Rattle.orientation_answers.specs.Answers as tells;
 

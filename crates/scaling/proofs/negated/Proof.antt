@@ -6,9 +6,9 @@ use lib.IntN.{ℤ, pos, negsuc, negℤ, _-ℤ_, +ℤ-idl}
 use mir.Syntax.{w16}
 use mir.Val.{toZ, ofZ, SFits}
 use mir.ValLaws.{toZ-ofZ}
-use Rattle.quaternions.specs.Quaternion.{negated16}
-use Rattle.quaternions.proofs.negated.Statement.{statement}
-use Rattle.quaternions.proofs.negated.Tie as tie
+use Rattle.scaling.specs.Quaternion.{negated16}
+use Rattle.scaling.proofs.negated.Statement.{statement}
+use Rattle.scaling.proofs.negated.Tie as tie
 
 -- of a number other than -32768 the negation fits
 fits : (z : ℤ) → SFits w16 z → (z ≡ negsuc 32767 → ⊥) → SFits w16 (negℤ z)

@@ -3,7 +3,7 @@ use mathlib.Core.Path.{_≡_, refl}
 use lib.IntN.{pos, negsuc}
 use lib.Ieee.{nan, inf, binary64, div, ofInt}
 use mathlib.Core.Bool.{true, false}
-use Rattle.quaternions.specs.Quaternion.{negated16, scaledBy}
+use Rattle.scaling.specs.Quaternion.{negated16, scaledBy}
 
 -- -32,768 stays, and its neighbours change their signs
 lowest : negated16 (negsuc 32767) ≡ negsuc 32767

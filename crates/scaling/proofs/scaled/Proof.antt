@@ -5,10 +5,10 @@ use lib.Ieee.{Float}
 use mir.Syntax.{w16}
 use mir.ValLaws.{toZ-ofZ}
 use borrow.Author.Needs.{needs}
-use Rattle.quaternions.specs.Quaternion.{negated16, over, scaledBy}
-use Rattle.quaternions.specs.declared.Quaternion.{Quaternion}
-use Rattle.quaternions.proofs.scaled.Statement.{statement}
-use Rattle.quaternions.proofs.scaled.Tie as tie
+use Rattle.scaling.specs.Quaternion.{negated16, over, scaledBy}
+use Rattle.scaling.specs.declared.Quaternion.{Quaternion}
+use Rattle.scaling.proofs.scaled.Statement.{statement}
+use Rattle.scaling.proofs.scaled.Tie as tie
 
 -- a quaternion by its four numbers
 by : (s : Float) {w w' x x' y y' z z' : ℤ} → w ≡ w' → x ≡ x' → y ≡ y' → z ≡ z'

@@ -4,10 +4,10 @@ use borrow.Author.Needs.{needs}
 use Rattle.dates.specs.declared.Date.{Date}
 use Rattle.dates.specs.Date.{dateOf}
 use Rattle.value.specs.Value.{dated}
-use Rattle.text_values.proofs.SeveralTexts.{date-row, date-column, date-there}
+use Rattle.date_values.proofs.OneDate.{date-row, date-column, date-there}
 use Rattle.value.specs.Answer.{elementIn}
-use Rattle.text_values.proofs.date_element.Statement.{statement}
-use Rattle.text_values.proofs.date_element.Tie as tie
+use Rattle.date_values.proofs.date_element.Statement.{statement}
+use Rattle.date_values.proofs.date_element.Tie as tie
 
 parse-utcdate-requires : tie.Need-parse-utcdate-requires
 parse-utcdate-requires c κs = search needs

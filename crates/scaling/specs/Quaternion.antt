@@ -4,7 +4,7 @@ use lib.IntN.{ℤ, negℤ}
 use lib.Ieee.{Float, binary64, div, ofInt}
 use mir.Syntax.{w16}
 use mir.Val.{toZ, ofZ}
-use Rattle.quaternions.specs.declared.Quaternion.{Quaternion}
+use Rattle.scaling.specs.declared.Quaternion.{Quaternion}
 
 -- 0 less x in 16 bits: its bits (`ofZ`), which wrap, read as a signed number (`toZ`). 32,768 is one more than they hold, and is -32,768
 unfoldable pub negated16 : ℤ → ℤ

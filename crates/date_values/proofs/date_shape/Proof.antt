@@ -4,8 +4,8 @@ use borrow.Author.Needs.{needs}
 use Rattle.dates.specs.declared.Date.{Date}
 use Rattle.value.specs.Value.{dated}
 use Rattle.value.specs.Answer.{shapeIn}
-use Rattle.text_values.proofs.date_shape.Statement.{statement}
-use Rattle.text_values.proofs.date_shape.Tie as tie
+use Rattle.date_values.proofs.date_shape.Statement.{statement}
+use Rattle.date_values.proofs.date_shape.Tie as tie
 
 parse-utcdate-requires : tie.Need-parse-utcdate-requires
 parse-utcdate-requires c κs = search needs
