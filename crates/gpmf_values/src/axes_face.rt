@@ -14,7 +14,7 @@ ghost use Rattle.orientation_answers.specs.Answers.{ofOrientations, ofMatrix, t
 pub extern "C" fn gpmf_orientations_of(orin: &[u8], orio: &[u8]) -> OrientationsAnswer
     ensures { λ r. ⌜ r ≡ ofOrientations (orientationsOf (now (orin .entry)) (now (orio .entry))) ⌝ }
 {
-    orientation_answers::of_orientations(axes::orientations_of(orin, orio))
+    orientation_answers::of_orientations(axes_to_matrix::orientations_of(orin, orio))
 }
 
 // The matrix from ORIN to ORIO.
@@ -22,7 +22,7 @@ pub extern "C" fn gpmf_orientations_of(orin: &[u8], orio: &[u8]) -> Orientations
 pub extern "C" fn gpmf_orientations_to_matrix(orin: Axes, orio: Axes) -> Matrix
     ensures { λ r. ⌜ r ≡ ofMatrix (matrixOf orin orio) ⌝ }
 {
-    orientation_answers::of_matrix(axes::orientations_to_matrix(orin, orio))
+    orientation_answers::of_matrix(axes_to_matrix::orientations_to_matrix(orin, orio))
 }
 
 // The axes that a matrix names.
@@ -30,7 +30,7 @@ pub extern "C" fn gpmf_orientations_to_matrix(orin: Axes, orio: Axes) -> Matrix
 pub extern "C" fn gpmf_matrix_to_orientation(matrix: Matrix) -> AxesAnswer
     ensures { λ r. ⌜ r ≡ ofOrientation (orientationOf (toMatrix matrix)) ⌝ }
 {
-    orientation_answers::of_orientation(axes::matrix_to_orientation(orientation_answers::to_matrix(
+    orientation_answers::of_orientation(matrix_to_axes::matrix_to_orientation(orientation_answers::to_matrix(
         matrix,
     )))
 }
@@ -40,7 +40,7 @@ pub extern "C" fn gpmf_matrix_to_orientation(matrix: Matrix) -> AxesAnswer
 pub extern "C" fn gpmf_mtrx_to_orientation(mtrx: &[f32]) -> AxesAnswer
     ensures { λ r. ⌜ r ≡ ofOrientation (orientationIn (now (mtrx .entry))) ⌝ }
 {
-    orientation_answers::of_orientation(axes::mtrx_to_orientation(mtrx))
+    orientation_answers::of_orientation(matrix_to_axes::mtrx_to_orientation(mtrx))
 }
 
 // The axes of a group's readings.

@@ -1,9 +1,9 @@
 -- `mtrx_to_orientation` meets its contract: numbers that are not nine are refused, and nine are three rows. Assumes nothing.
 use Rattle.axes.specs.Back.{orientationIn}
 use borrow.Author.Tests.{eq-eqb, ne-eqb}
 use borrow.Author.Needs.{needs}
-use Rattle.axes.proofs.mtrx_to_orientation.Statement.{statement}
-use Rattle.axes.proofs.mtrx_to_orientation.Tie as tie
+use Rattle.matrix_to_axes.proofs.mtrx_to_orientation.Statement.{statement}
+use Rattle.matrix_to_axes.proofs.mtrx_to_orientation.Tie as tie
 
 returns : tie.Need-returns
 unfolding orientationIn

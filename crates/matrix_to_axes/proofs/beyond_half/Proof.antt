@@ -1,8 +1,8 @@
 -- `beyond_half` meets its contract, by the tests that led to each answer. Assumes nothing.
 use Rattle.axes.specs.Back.{beyond}
 use lib.Ieee.{ofBits, neg}
-use Rattle.axes.proofs.beyond_half.Statement.{statement}
-use Rattle.axes.proofs.beyond_half.Tie as tie
+use Rattle.matrix_to_axes.proofs.beyond_half.Statement.{statement}
+use Rattle.matrix_to_axes.proofs.beyond_half.Tie as tie
 
 returns : tie.Need-returns
 unfolding beyond ofBits

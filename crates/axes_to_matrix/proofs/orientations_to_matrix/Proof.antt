@@ -1,7 +1,7 @@
 -- `orientations_to_matrix` meets its contract: it is the rows of the three ORIO letters. Assumes nothing.
 use borrow.Author.Needs.{needs}
-use Rattle.axes.proofs.orientations_to_matrix.Statement.{statement}
-use Rattle.axes.proofs.orientations_to_matrix.Tie as tie
+use Rattle.axes_to_matrix.proofs.orientations_to_matrix.Statement.{statement}
+use Rattle.axes_to_matrix.proofs.orientations_to_matrix.Tie as tie
 
 row-requires : tie.Need-row-requires
 row-requires c κs = search needs

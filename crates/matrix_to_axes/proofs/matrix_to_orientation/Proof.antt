@@ -1,7 +1,7 @@
 -- `matrix_to_orientation` meets its contract: the axes of the three rows are told to the one answer. Assumes nothing.
 use borrow.Author.Needs.{needs}
-use Rattle.axes.proofs.matrix_to_orientation.Statement.{statement}
-use Rattle.axes.proofs.matrix_to_orientation.Tie as tie
+use Rattle.matrix_to_axes.proofs.matrix_to_orientation.Statement.{statement}
+use Rattle.matrix_to_axes.proofs.matrix_to_orientation.Tie as tie
 
 array-copy-out-axis : tie.Need-array-copy-out-axis
 array-copy-out-axis c = search needs

@@ -1,7 +1,7 @@
 -- `axis` meets its contract: what each column decides is told to the one before it. Assumes nothing.
 use borrow.Author.Needs.{needs}
-use Rattle.axes.proofs.axis.Statement.{statement}
-use Rattle.axes.proofs.axis.Tie as tie
+use Rattle.matrix_to_axes.proofs.axis.Statement.{statement}
+use Rattle.matrix_to_axes.proofs.axis.Tie as tie
 
 array-read-beyond-half : tie.Need-array-read-beyond-half
 array-read-beyond-half c = search needs

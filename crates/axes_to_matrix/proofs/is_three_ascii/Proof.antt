@@ -1,9 +1,9 @@
 -- `is_three_ascii` meets its contract, by the tests that led to each answer. Assumes nothing.
 use Rattle.axes.specs.Matrix.{threeAscii}
 use borrow.Author.Tests.{eq-eqb, ne-eqb, lt-ltb, le-ltb}
 use borrow.Author.Needs.{needs}
-use Rattle.axes.proofs.is_three_ascii.Statement.{statement}
-use Rattle.axes.proofs.is_three_ascii.Tie as tie
+use Rattle.axes_to_matrix.proofs.is_three_ascii.Statement.{statement}
+use Rattle.axes_to_matrix.proofs.is_three_ascii.Tie as tie
 
 returns : tie.Need-returns
 unfolding threeAscii

@@ -1,8 +1,8 @@
 -- `lowered` meets its contract, by the tests that led to each answer. Assumes nothing.
 use borrow.Author.Tests.{lt-leb, le-leb}
 use borrow.Author.Needs.{needs}
-use Rattle.axes.proofs.lowered.Statement.{statement}
-use Rattle.axes.proofs.lowered.Tie as tie
+use Rattle.axes_to_matrix.proofs.lowered.Statement.{statement}
+use Rattle.axes_to_matrix.proofs.lowered.Tie as tie
 
 returns : tie.Need-returns
 returns c = simp (lt-leb 65 _ (c .if1 .taken))

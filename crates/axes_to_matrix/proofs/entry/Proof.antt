@@ -1,11 +1,11 @@
 -- `entry` meets its contract, by the tests that led to each answer. Assumes nothing.
 use Rattle.axes.specs.Matrix.{small, entryOf}
 use mathlib.Core.Path.{_≡_, sym, _∙_}
 use lib.Ieee.{ofBits, neg}
 use borrow.Author.Tests.{eq-eqb, ne-eqb}
 use borrow.Author.Needs.{needs}
-use Rattle.axes.proofs.entry.Statement.{statement}
-use Rattle.axes.proofs.entry.Tie as tie
+use Rattle.axes_to_matrix.proofs.entry.Statement.{statement}
+use Rattle.axes_to_matrix.proofs.entry.Tie as tie
 
 returns : tie.Need-returns
 unfolding entryOf ofBits

@@ -1,8 +1,8 @@
 -- `lettered_by` meets its contract, by the tests that led to each answer. Assumes nothing.
 use Rattle.axes.specs.Back.{lettered}
 use borrow.Author.Tests.{eq-eqb, ne-eqb}
-use Rattle.axes.proofs.lettered_by.Statement.{statement}
-use Rattle.axes.proofs.lettered_by.Tie as tie
+use Rattle.matrix_to_axes.proofs.lettered_by.Statement.{statement}
+use Rattle.matrix_to_axes.proofs.lettered_by.Tie as tie
 
 returns : tie.Need-returns
 unfolding lettered

@@ -1,10 +1,10 @@
 -- `orientations_of` meets its contract, by what is known of each text. Assumes nothing.
 use Rattle.axes.proofs.Lengths.{three-long}
 use Rattle.axes.specs.Matrix.{orientationsOf}
 use mathlib.Core.Path.{sym, _∙_}
 use borrow.Author.Needs.{needs}
-use Rattle.axes.proofs.orientations_of.Statement.{statement}
-use Rattle.axes.proofs.orientations_of.Tie as tie
+use Rattle.axes_to_matrix.proofs.orientations_of.Statement.{statement}
+use Rattle.axes_to_matrix.proofs.orientations_of.Tie as tie
 
 is-three-ascii-requires : tie.Need-is-three-ascii-requires
 is-three-ascii-requires c κs = search needs
