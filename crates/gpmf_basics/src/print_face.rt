@@ -55,7 +55,7 @@ pub extern "C" fn gpmf_put_signed(out: &mut [u8], at: usize, n: i64) -> usize
 pub extern "C" fn gpmf_pieces(s: &[u8], b: u8) -> usize
     ensures { λ r. ⌜ r ≡ length (piecesOf b (now (s .entry))) ⌝ }
 {
-    line::pieces(s, b)
+    pieces::pieces(s, b)
 }
 
 // The number in decimal digits.

@@ -27,10 +27,10 @@ use Rattle.text.proofs.put_hex.Kinds as put-hex-kinds
 use Rattle.text.proofs.put_hex.Reads as put-hex-reads
 use Rattle.text.proofs.put_signed.Kinds as put-signed-kinds
 use Rattle.text.proofs.put_signed.Reads as put-signed-reads
-use Rattle.line.proofs.pieces.Kinds as pieces-kinds
-use Rattle.line.proofs.pieces.Reads as pieces-reads
-use Rattle.line.proofs.piece.Kinds as piece-kinds
-use Rattle.line.proofs.piece.Reads as piece-reads
+use Rattle.pieces.proofs.pieces.Kinds as pieces-kinds
+use Rattle.pieces.proofs.pieces.Reads as pieces-reads
+use Rattle.pieces.proofs.piece.Kinds as piece-kinds
+use Rattle.pieces.proofs.piece.Reads as piece-reads
 use Rattle.line.proofs.decimal_number.Kinds as decimal-number-kinds
 use Rattle.line.proofs.decimal_number.Reads as decimal-number-reads
 use Rattle.line.proofs.hex_number.Kinds as hex-number-kinds

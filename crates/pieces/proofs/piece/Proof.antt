@@ -1,8 +1,8 @@
 -- `piece` meets its contract: from where the piece starts up to where it ends. Assumes nothing.
 use mathlib.Core.Path.{_∙_}
 use borrow.Author.Needs.{needs}
-use Rattle.line.proofs.piece.Statement.{statement}
-use Rattle.line.proofs.piece.Tie as tie
+use Rattle.pieces.proofs.piece.Statement.{statement}
+use Rattle.pieces.proofs.piece.Tie as tie
 
 start-requires : tie.Need-start-requires
 start-requires c κs = search needs

@@ -5,9 +5,9 @@ use native.Mathlib.Omega.{arith}
 use borrow.Author.Needs.{needs}
 use lib.ListN.{length, drop, length-drop, drop-of-length-le}
 use Rattle.foundation.specs.Pieces.{before}
-use Rattle.line.proofs.Reading.{before-length}
-use Rattle.line.proofs.up_to.Statement.{statement}
-use Rattle.line.proofs.up_to.Tie as tie
+use Rattle.pieces.proofs.Splitting.{before-length}
+use Rattle.pieces.proofs.up_to.Statement.{statement}
+use Rattle.pieces.proofs.up_to.Tie as tie
 
 slice-aggregate-result : tie.Need-slice-aggregate-result
 slice-aggregate-result c = search needs

@@ -5,9 +5,9 @@ use native.Mathlib.Numerals.{add-one}
 use native.Mathlib.Omega.{arith}
 use lib.ListN.{length, drop}
 use Rattle.foundation.specs.Pieces.{before}
-use Rattle.line.proofs.Finding.{found-here, not-here, at-end}
-use Rattle.line.proofs.find.Statement.{statement}
-use Rattle.line.proofs.find.Tie as tie
+use Rattle.pieces.proofs.Finding.{found-here, not-here, at-end}
+use Rattle.pieces.proofs.find.Statement.{statement}
+use Rattle.pieces.proofs.find.Tie as tie
 
 abbrev Inv-loop : tie.InvT-loop
 Inv-loop s from b i₀ i = i + before b (drop i s) ≡ from + before b (drop from s)

@@ -5,10 +5,10 @@ use mathlib.Core.List.{[]}
 use native.Mathlib.Omega.{arith}
 use lib.ListN.{getD, drop, length-drop}
 use Rattle.foundation.specs.Pieces.{before, piecesOf}
-use Rattle.line.proofs.Reading.{before-length}
-use Rattle.line.proofs.Splitting.{leftFrom, left-start, left-next, left-past, left-here, nothing-past}
-use Rattle.line.proofs.start.Statement.{statement}
-use Rattle.line.proofs.start.Tie as tie
+use Rattle.pieces.proofs.Splitting.{before-length}
+use Rattle.pieces.proofs.Splitting.{leftFrom, left-start, left-next, left-past, left-here, nothing-past}
+use Rattle.pieces.proofs.start.Statement.{statement}
+use Rattle.pieces.proofs.start.Tie as tie
 
 abbrev Inv-loop : tie.InvT-loop
 Inv-loop s b index from₀ left₀ from left = getD (leftFrom b s from) left [] ≡ getD (piecesOf b s) index []

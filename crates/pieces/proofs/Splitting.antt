@@ -3,14 +3,22 @@ use Prim.Native.Nat.{ℕ, suc, _+_, _≤_, _<_}
 use mathlib.Core.Path.{_≡_, refl, sym, ap, _∙_}
 use mathlib.Core.Bool.{Bool, true, false, cond}
 use mathlib.Core.List.{List, [], _∷_}
-use native.Mathlib.Nat.{not-suc-le-zero}
+use native.Mathlib.Nat.{le-refl, not-suc-le-zero}
 use native.Mathlib.Omega.{arith}
 use borrow.Author.Tests.{eq-eqb, ne-eqb, ltb-true, ltb-false, leb-true, leb-false, le-leb, lt-leb}
 use lib.Dec.{eqb, ltb, leb, leb·zero}
 use lib.ListN.{length, getD, take, drop, length-drop, drop-of-length-le}
-use lib.Seq.{drop-cons, drop-drop}
+use lib.Seq.{drop-cons, drop-drop, length-take-le}
 use Rattle.foundation.specs.Pieces.{countOne, before, inFront, ends, piecesOf}
-use Rattle.line.specs.Read.{upTo}
+use Rattle.pieces.specs.Piece.{upTo}
+
+one-more : (t : Bool) (n m : ℕ) → n ≤ m → countOne t n ≤ suc m
+one-more true n m h = omega arith
+one-more false n m h = omega arith
+
+pub before-length : (b : ℕ) (s : List ℕ) → before b s ≤ length s
+before-length b [] = le-refl 0
+before-length b (c ∷ s) = one-more (eqb c b) (before b s) (length s) (before-length b s)
 
 -- the pieces behind the first
 abbrev behindIf : Bool → List (List ℕ) → List (List ℕ) → List (List ℕ)
@@ -29,6 +37,10 @@ first-piece b (c ∷ s) = by (eqb c b) (first-piece b s)
         → ends t c (piecesOf b s) ≡ take (countOne t (before b s)) (c ∷ s) ∷ behindIf t (piecesOf b s) (behind b s)
     by true ih = refl
     by false ih = ap (inFront c) ih
+
+-- THE LENGTH of the first piece
+pub first-length : (b : ℕ) (s : List ℕ) → length (getD (piecesOf b s) 0 []) ≡ before b s
+first-length b s = rw (first-piece b s) (length-take-le (before b s) s (before-length b s))
 
 behind-there : (b : ℕ) (s : List ℕ) → before b s < length s → behind b s ≡ piecesOf b (drop (suc (before b s)) s)
 behind-there b [] h = absurd (not-suc-le-zero h)

@@ -6,9 +6,9 @@ use native.Mathlib.Numerals.{add-one}
 use native.Mathlib.Omega.{arith}
 use lib.ListN.{length, drop}
 use Rattle.foundation.specs.Pieces.{piecesOf}
-use Rattle.line.proofs.Splitting.{piece-ends, piece-goes-on, last-piece}
-use Rattle.line.proofs.pieces.Statement.{statement}
-use Rattle.line.proofs.pieces.Tie as tie
+use Rattle.pieces.proofs.Splitting.{piece-ends, piece-goes-on, last-piece}
+use Rattle.pieces.proofs.pieces.Statement.{statement}
+use Rattle.pieces.proofs.pieces.Tie as tie
 
 abbrev Inv-loop : tie.InvT-loop
 Inv-loop s b count₀ i₀ count i = (count + length (piecesOf b (drop i s)) ≡ length (piecesOf b s) + 1) × (count ≤ i + 1) × (i ≤ length s)
