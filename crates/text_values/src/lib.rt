@@ -47,7 +47,7 @@ pub fn row_text(klv: KLV, payload: &[u8], row: u32) -> &[u8]
 pub fn element(place: usize, klv: KLV, payload: &[u8], row: usize, column: usize) -> Read
     ensures { λ r. ⌜ r ≡ elementIn place (texts klv (now (payload .entry))) row column ⌝ }
 {
-    if !texts::are_utf8(payload, wide(klv.size)) {
+    if !utf8::are_utf8(payload, wide(klv.size)) {
         return Read::Refused { number: 7, place };
     }
     if wider(klv.repeat) <= row {
@@ -64,7 +64,7 @@ pub fn element(place: usize, klv: KLV, payload: &[u8], row: usize, column: usize
 pub fn columns(place: usize, klv: KLV, payload: &[u8], row: usize) -> Count
     ensures { λ r. ⌜ r ≡ columnsIn place (texts klv (now (payload .entry))) row ⌝ }
 {
-    if !texts::are_utf8(payload, wide(klv.size)) {
+    if !utf8::are_utf8(payload, wide(klv.size)) {
         return Count::Refused { number: 7, place };
     }
     if wider(klv.repeat) <= row {
@@ -78,7 +78,7 @@ pub fn columns(place: usize, klv: KLV, payload: &[u8], row: usize) -> Count
 pub fn shape(place: usize, klv: KLV, payload: &[u8]) -> Shaped
     ensures { λ r. ⌜ r ≡ shapeIn place (texts klv (now (payload .entry))) ⌝ }
 {
-    if !texts::are_utf8(payload, wide(klv.size)) {
+    if !utf8::are_utf8(payload, wide(klv.size)) {
         return Shaped::Refused { number: 7, place };
     }
     let first = row_text(klv, payload, 0);

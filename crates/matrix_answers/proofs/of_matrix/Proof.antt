@@ -1,8 +1,8 @@
 -- `of_matrix` meets its contract. Assumes nothing.
 use mathlib.Core.Path.{refl}
 use borrow.Author.Needs.{needs}
-use Rattle.orientation_answers.proofs.of_matrix.Statement.{statement}
-use Rattle.orientation_answers.proofs.of_matrix.Tie as tie
+use Rattle.matrix_answers.proofs.of_matrix.Statement.{statement}
+use Rattle.matrix_answers.proofs.of_matrix.Tie as tie
 
 array-copy-out-first : tie.Need-array-copy-out-first
 array-copy-out-first c = search needs

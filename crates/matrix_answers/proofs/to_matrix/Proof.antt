@@ -1,8 +1,8 @@
 -- `to_matrix` meets its contract. Assumes nothing.
 use mathlib.Core.Path.{refl}
 use borrow.Author.Needs.{needs}
-use Rattle.orientation_answers.proofs.to_matrix.Statement.{statement}
-use Rattle.orientation_answers.proofs.to_matrix.Tie as tie
+use Rattle.matrix_answers.proofs.to_matrix.Statement.{statement}
+use Rattle.matrix_answers.proofs.to_matrix.Tie as tie
 
 array-read-t5 : tie.Need-array-read-t5
 array-read-t5 c = search needs

@@ -2,10 +2,10 @@
 use Prim.Native.Nat.{ℕ}
 use mathlib.Core.Path.{ap}
 use native.Mathlib.Omega.{arith}
 use Rattle.texts.specs.Texts.{chunkLen}
-use Rattle.texts.proofs.Texts.{sized}
-use Rattle.texts.proofs.chunk_len.Statement.{statement}
-use Rattle.texts.proofs.chunk_len.Tie as tie
+use Rattle.utf8.proofs.Texts.{sized}
+use Rattle.utf8.proofs.chunk_len.Statement.{statement}
+use Rattle.utf8.proofs.chunk_len.Tie as tie
 
 returns : tie.Need-returns
 returns c = omega (arith, ap (λ (n : ℕ). chunkLen n (c .before .args .left)) (c .if1 .taken))

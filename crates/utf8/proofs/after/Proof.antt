@@ -4,12 +4,12 @@ use mathlib.Core.Path.{_≡_, sym, ap, _∙_}
 use native.Mathlib.Omega.{arith}
 use borrow.Author.Needs.{needs}
 use lib.ListN.{replicate}
-use Rattle.texts.specs.declared.Expected.{Expected}
+use Rattle.utf8.specs.declared.Expected.{Expected}
 use Rattle.texts.specs.Utf8.{Due, _to_, next}
-use Rattle.texts.specs.Expected.{owed}
+use Rattle.utf8.specs.Expected.{owed}
 use Rattle.texts.proofs.Table.{next-below, next-above, next-inside}
-use Rattle.texts.proofs.after.Statement.{statement}
-use Rattle.texts.proofs.after.Tie as tie
+use Rattle.utf8.proofs.after.Statement.{statement}
+use Rattle.utf8.proofs.after.Tie as tie
 
 -- what is next, where the state is known
 known : (d e : Expected) (b : ℕ) (x : Due) → d ≡ e → next (owed e) b ≡ x → x ≡ next (owed d) b

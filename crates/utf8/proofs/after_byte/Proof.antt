@@ -3,9 +3,9 @@ use Prim.Native.Nat.{suc, _-_}
 use mathlib.Core.Path.{_≡_, sym, ap}
 use native.Mathlib.Omega.{arith}
 use borrow.Author.Needs.{needs}
-use Rattle.texts.specs.Expected.{owedBehind}
-use Rattle.texts.proofs.after_byte.Statement.{statement}
-use Rattle.texts.proofs.after_byte.Tie as tie
+use Rattle.utf8.specs.Expected.{owedBehind}
+use Rattle.utf8.proofs.after_byte.Statement.{statement}
+use Rattle.utf8.proofs.after_byte.Tie as tie
 
 sub-t4 : tie.Need-sub-t4
 sub-t4 c = search needs

@@ -8,9 +8,9 @@ use native.Mathlib.Omega.{arith}
 use lib.Dec.{T, ltb, ltb→lt}
 use lib.ListN.{length, drop, getD, drop-of-length-le}
 use lib.Seq.{drop-cons}
 use Rattle.texts.specs.Utf8.{table, Due, due, pays, wellFormed}
-use Rattle.texts.specs.Expected.{ascii}
+use Rattle.utf8.specs.Expected.{ascii}
 use Rattle.texts.proofs.Table.{both, same-row}
 
 -- the next byte joins those passed
 pub ascii-turn : (only : Bool) (s : List ℕ) (i : ℕ) → i < length s → (only && ltb (getD s i 0) 0x80 && ascii (drop (i + 1) s)) ≡ (only && ascii (drop i s))

@@ -6,10 +6,10 @@ use native.Mathlib.Omega.{arith}
 use borrow.Author.Needs.{needs}
 use borrow.Author.Tests.{not-true, not-false}
 use lib.ListN.{length, drop, drop-of-length-le}
 use Rattle.texts.specs.Texts.{areWellFormed}
-use Rattle.texts.proofs.Texts.{well-formed-none, well-formed-next}
-use Rattle.texts.proofs.are_utf8.Statement.{statement}
-use Rattle.texts.proofs.are_utf8.Tie as tie
+use Rattle.utf8.proofs.Texts.{well-formed-none, well-formed-next}
+use Rattle.utf8.proofs.are_utf8.Statement.{statement}
+use Rattle.utf8.proofs.are_utf8.Tie as tie
 
 abbrev Inv-loop : tie.InvT-loop
 Inv-loop texts size at₀ at = (at ≤ length texts) × (areWellFormed size (drop at texts) ≡ areWellFormed size texts)

@@ -4,9 +4,9 @@ use mathlib.Core.Bool.{Bool, true, _&&_}
 use mathlib.Core.List.{List, [], _∷_}
 use lib.Dec.{ltb}
 use lib.ListN.{replicate}
 use Rattle.texts.specs.Utf8.{_to_, Due, due, refused}
-use Rattle.texts.specs.declared.Expected.{Expected}
-use Rattle.texts.specs.declared.Expected.the-variants.{First, Byte, Nothing}
+use Rattle.utf8.specs.declared.Expected.{Expected}
+use Rattle.utf8.specs.declared.Expected.the-variants.{First, Byte, Nothing}
 
 -- so many bytes of 80 to BF
 abbrev pub owedBehind : ℕ → Due

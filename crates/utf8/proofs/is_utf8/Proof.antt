@@ -4,12 +4,12 @@ use mathlib.Core.Path.{_≡_, refl, sym, ap, _∙_}
 use native.Mathlib.Omega.{arith}
 use borrow.Author.Needs.{needs}
 use lib.ListN.{length, drop}
 use Rattle.texts.specs.Utf8.{Due, pays, wellFormed}
-use Rattle.texts.specs.Expected.{owed}
+use Rattle.utf8.specs.Expected.{owed}
 use Rattle.texts.proofs.Table.{pays-turn, pays-end}
-use Rattle.texts.proofs.Ascii.{ascii-well-formed}
-use Rattle.texts.proofs.is_utf8.Statement.{statement}
-use Rattle.texts.proofs.is_utf8.Tie as tie
+use Rattle.utf8.proofs.Ascii.{ascii-well-formed}
+use Rattle.utf8.proofs.is_utf8.Statement.{statement}
+use Rattle.utf8.proofs.is_utf8.Tie as tie
 
 abbrev Inv-loop : tie.InvT-loop
 Inv-loop text expected₀ i₀ expected i = (i ≤ length text) × (pays (owed expected) (drop i text) ≡ wellFormed text)

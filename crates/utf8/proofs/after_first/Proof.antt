@@ -1,10 +1,10 @@
 -- `after_first` meets its contract: each arm's bytes begin the same row of the table. Assumes nothing.
 use native.Mathlib.Omega.{arith}
 use mathlib.Core.Path.{sym}
 use Rattle.texts.specs.Utf8.{table}
 use Rattle.texts.proofs.Table.{same-row}
-use Rattle.texts.proofs.after_first.Statement.{statement}
-use Rattle.texts.proofs.after_first.Tie as tie
+use Rattle.utf8.proofs.after_first.Statement.{statement}
+use Rattle.utf8.proofs.after_first.Tie as tie
 
 returns : tie.Need-returns
 unfolding table

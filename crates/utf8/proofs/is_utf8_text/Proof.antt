@@ -5,10 +5,10 @@ use borrow.Author.Needs.{needs}
 use lib.ListN.{take}
 use lib.Seq.{length-take-le}
 use native.Mathlib.Omega.{arith}
 use Rattle.texts.specs.Utf8.{wellFormed}
 use Rattle.texts.proofs.Kept.{up-to-zero-front, up-to-zero-length}
-use Rattle.texts.proofs.is_utf8_text.Statement.{statement}
-use Rattle.texts.proofs.is_utf8_text.Tie as tie
+use Rattle.utf8.proofs.is_utf8_text.Statement.{statement}
+use Rattle.utf8.proofs.is_utf8_text.Tie as tie
 
 utf8-len-requires : tie.Need-utf8-len-requires
 utf8-len-requires c κs = search needs

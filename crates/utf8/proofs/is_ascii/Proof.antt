@@ -5,10 +5,10 @@ use mathlib.Core.Bool.{_&&_}
 use native.Mathlib.Omega.{arith}
 use borrow.Author.Needs.{needs}
 use lib.ListN.{length, drop}
-use Rattle.texts.specs.Expected.{ascii}
-use Rattle.texts.proofs.Ascii.{ascii-turn, ascii-end}
-use Rattle.texts.proofs.is_ascii.Statement.{statement}
-use Rattle.texts.proofs.is_ascii.Tie as tie
+use Rattle.utf8.specs.Expected.{ascii}
+use Rattle.utf8.proofs.Ascii.{ascii-turn, ascii-end}
+use Rattle.utf8.proofs.is_ascii.Statement.{statement}
+use Rattle.utf8.proofs.is_ascii.Tie as tie
 
 abbrev Inv-loop : tie.InvT-loop
 Inv-loop text only₀ i₀ only i = (i ≤ length text) × ((only && ascii (drop i text)) ≡ ascii text)
