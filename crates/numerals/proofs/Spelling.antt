@@ -7,9 +7,9 @@ use native.Mathlib.Numerals.{add-one}
 use native.Mathlib.Omega.{arith}
 use lib.ListN.{length, take, drop, set, getD, length-append, length-set, take-append-drop}
 use lib.Seq.{take-set-le, take-take, drop-cons, getD-set-same, drop-set-lt}
 use Rattle.text.specs.Lay.{over}
 use Rattle.foundation.specs.Digits.{digits}
-use Rattle.text.specs.Numerals.{lastDigits}
+use Rattle.numerals.specs.Numerals.{lastDigits}
 
 pub length-lastDigits : (base count n : ℕ) → length (lastDigits base count n) ≡ count
 length-lastDigits base zero n = refl

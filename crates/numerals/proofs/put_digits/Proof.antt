@@ -5,11 +5,11 @@ use native.Mathlib.Omega.{arith}
 use borrow.Author.Needs.{needs}
 use borrow.Author.Tests.{leb-true}
 use lib.ListN.{length}
-use Rattle.text.specs.Numerals.{lastDigits}
+use Rattle.numerals.specs.Numerals.{lastDigits}
 use Rattle.text.proofs.Laying.{lays-whole, lays-nothing}
-use Rattle.text.proofs.Spelling.{length-lastDigits}
-use Rattle.text.proofs.put_digits.Statement.{statement}
-use Rattle.text.proofs.put_digits.Tie as tie
+use Rattle.numerals.proofs.Spelling.{length-lastDigits}
+use Rattle.numerals.proofs.put_digits.Statement.{statement}
+use Rattle.numerals.proofs.put_digits.Tie as tie
 
 has-room-requires : tie.Need-has-room-requires
 has-room-requires c κs = search needs

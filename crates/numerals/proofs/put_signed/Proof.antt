@@ -8,9 +8,9 @@ use lib.Signed.{mag, ltZ}
 use mir.Syntax.{w64}
 use mir.Val.{toZ, ofZ}
 use mir.Facts.{toZ-ofZ}
-use Rattle.text.proofs.Negative.{signed-below, signed-above, above-fits}
-use Rattle.text.proofs.put_signed.Statement.{statement}
-use Rattle.text.proofs.put_signed.Tie as tie
+use Rattle.numerals.proofs.Negative.{signed-below, signed-above, above-fits}
+use Rattle.numerals.proofs.put_signed.Statement.{statement}
+use Rattle.numerals.proofs.put_signed.Tie as tie
 
 negated-requires : tie.Need-negated-requires
 negated-requires c κs = search needs

@@ -1,10 +1,10 @@
 -- `put_decimal` meets its contract: a number's decimal is its last digits, as many as it has. Assumes nothing.
 use mathlib.Core.Path.{_≡_}
 use borrow.Author.Needs.{needs}
-use Rattle.text.specs.Numerals.{lastDigits, decimal}
-use Rattle.text.proofs.Decimal.{last-decimal}
-use Rattle.text.proofs.put_decimal.Statement.{statement}
-use Rattle.text.proofs.put_decimal.Tie as tie
+use Rattle.numerals.specs.Numerals.{lastDigits, decimal}
+use Rattle.numerals.proofs.Decimal.{last-decimal}
+use Rattle.numerals.proofs.put_decimal.Statement.{statement}
+use Rattle.numerals.proofs.put_decimal.Tie as tie
 
 decimal-places-requires : tie.Need-decimal-places-requires
 decimal-places-requires c κs = search needs

@@ -11,7 +11,7 @@ use lib.Dec.{ltb}
 use lib.ListN.{length, getD, length-append}
 use Rattle.foundation.specs.Fuel.{Falls, fix-eq}
 use Rattle.foundation.specs.Digits.{digits}
-use Rattle.text.specs.Numerals.{lastDigits, tenthFirst, decimalStep, decimal}
+use Rattle.numerals.specs.Numerals.{lastDigits, tenthFirst, decimalStep, decimal}
 
 falls : Falls (λ k. k) [] decimalStep
 falls f g n h = by (ltb n 10) refl

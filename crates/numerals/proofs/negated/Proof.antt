@@ -1,8 +1,8 @@
 -- `negated` meets its contract: one more, turned about, and one more again. Assumes nothing.
 use native.Mathlib.Omega.{arith}
-use Rattle.text.proofs.Negative.{raised-fits, turned-fits, read-back}
-use Rattle.text.proofs.negated.Statement.{statement}
-use Rattle.text.proofs.negated.Tie as tie
+use Rattle.numerals.proofs.Negative.{raised-fits, turned-fits, read-back}
+use Rattle.numerals.proofs.negated.Statement.{statement}
+use Rattle.numerals.proofs.negated.Tie as tie
 
 add-result : tie.Need-add-result
 add-result c = raised-fits (c .args .n) (c .pre) (c .fits .n)

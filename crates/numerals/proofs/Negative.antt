@@ -12,7 +12,7 @@ use lib.Signed.{mag, ltZ, nonNeg}
 use mir.Syntax.{w64}
 use mir.Val.{Fits, SFits, toZ, ofZ}
 use mir.Facts.{toZ-ofZ}
-use Rattle.text.specs.Numerals.{decimal, signedDecimal}
+use Rattle.numerals.specs.Numerals.{decimal, signedDecimal}
 
 pub below-zero : (n : ℤ) → ltZ n (pos 0) ≡ true → n ≡ negsuc (mag n)
 below-zero (pos a) h = let l : a < 0 = ltb-true a 0 h in absurd (omega arith)

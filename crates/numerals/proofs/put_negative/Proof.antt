@@ -6,12 +6,12 @@ use native.Mathlib.Omega.{arith}
 use borrow.Author.Needs.{needs}
 use borrow.Author.Tests.{le-leb, lt-leb, leb-true, leb-false}
 use lib.ListN.{length, set, length-set}
 use Rattle.text.specs.Lay.{Lays}
-use Rattle.text.specs.Numerals.{decimal}
-use Rattle.text.proofs.Decimal.{last-decimal}
+use Rattle.numerals.specs.Numerals.{decimal}
+use Rattle.numerals.proofs.Decimal.{last-decimal}
 use Rattle.text.proofs.Laying.{lays-whole, lays-nothing, lays-all, over-one}
-use Rattle.text.proofs.put_negative.Statement.{statement}
-use Rattle.text.proofs.put_negative.Tie as tie
+use Rattle.numerals.proofs.put_negative.Statement.{statement}
+use Rattle.numerals.proofs.put_negative.Tie as tie
 
 returns : tie.Need-returns
 returns c =

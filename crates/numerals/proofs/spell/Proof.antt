@@ -3,9 +3,9 @@ use Prim.Native.Nat.{suc, _-_}
 use mathlib.Core.Path.{_≡_, refl}
 use native.Mathlib.Nat.{mod-lt}
 use native.Mathlib.Omega.{arith}
-use Rattle.text.proofs.Spelling.{Spelling, one-more, all-laid}
-use Rattle.text.proofs.spell.Statement.{statement}
-use Rattle.text.proofs.spell.Tie as tie
+use Rattle.numerals.proofs.Spelling.{Spelling, one-more, all-laid}
+use Rattle.numerals.proofs.spell.Statement.{statement}
+use Rattle.numerals.proofs.spell.Tie as tie
 
 abbrev Inv-loop : tie.InvT-loop
 Inv-loop out₀ at n base count rest₀ left₀ out rest left = Spelling out₀ at n base count out rest left

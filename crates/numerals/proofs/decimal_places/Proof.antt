@@ -3,10 +3,10 @@ use Prim.Native.Nat.{_+_, _≤_}
 use mathlib.Core.Path.{_≡_}
 use native.Mathlib.Omega.{arith}
 use lib.ListN.{length}
-use Rattle.text.specs.Numerals.{decimal}
-use Rattle.text.proofs.Decimal.{length-one, length-more}
-use Rattle.text.proofs.decimal_places.Statement.{statement}
-use Rattle.text.proofs.decimal_places.Tie as tie
+use Rattle.numerals.specs.Numerals.{decimal}
+use Rattle.numerals.proofs.Decimal.{length-one, length-more}
+use Rattle.numerals.proofs.decimal_places.Statement.{statement}
+use Rattle.numerals.proofs.decimal_places.Tie as tie
 
 abbrev Inv-loop : tie.InvT-loop
 Inv-loop n rest₀ count₀ rest count = (count + length (decimal rest) ≡ length (decimal n) + 1) × (count + rest ≤ n + 1)
