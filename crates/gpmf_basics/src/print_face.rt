@@ -4,7 +4,7 @@ ghost use mathlib.Core.Path.{_≡_};
 ghost use mathlib.Core.List.{[], _∷_};
 ghost use lib.ListN.{length};
 ghost use Rattle.text.specs.Lay.{Lays};
-ghost use Rattle.text.specs.Numerals.{decimal, lastDigits, signedDecimal};
+ghost use Rattle.numerals.specs.Numerals.{decimal, lastDigits, signedDecimal};
 ghost use Rattle.foundation.specs.Pieces.{piecesOf};
 ghost use Rattle.line.specs.Read.{numberIn};
 ghost use Rattle.answers.specs.Answers.{ofNumber};
@@ -31,7 +31,7 @@ pub extern "C" fn gpmf_put_bytes(out: &mut [u8], at: usize, text: &[u8]) -> usiz
 pub extern "C" fn gpmf_put_decimal(out: &mut [u8], at: usize, n: u64) -> usize
     ensures { λ r. ⌜ Lays (decimal n) (now (out .entry)) at r (now (out .exit)) ⌝ }
 {
-    text::put_decimal(out, at, n)
+    numerals::put_decimal(out, at, n)
 }
 
 // Lays the last digits of a number in hex.
@@ -39,7 +39,7 @@ pub extern "C" fn gpmf_put_decimal(out: &mut [u8], at: usize, n: u64) -> usize
 pub extern "C" fn gpmf_put_hex(out: &mut [u8], at: usize, n: u64, count: usize) -> usize
     ensures { λ r. ⌜ Lays (lastDigits 16 count n) (now (out .entry)) at r (now (out .exit)) ⌝ }
 {
-    text::put_hex(out, at, n, count)
+    numerals::put_hex(out, at, n, count)
 }
 
 // Lays a signed number in decimal.
@@ -47,7 +47,7 @@ pub extern "C" fn gpmf_put_hex(out: &mut [u8], at: usize, n: u64, count: usize) 
 pub extern "C" fn gpmf_put_signed(out: &mut [u8], at: usize, n: i64) -> usize
     ensures { λ r. ⌜ Lays (signedDecimal n) (now (out .entry)) at r (now (out .exit)) ⌝ }
 {
-    text::put_signed(out, at, n)
+    numerals::put_signed(out, at, n)
 }
 
 // How many pieces a text falls into.
@@ -55,7 +55,7 @@ pub extern "C" fn gpmf_put_signed(out: &mut [u8], at: usize, n: i64) -> usize
 pub extern "C" fn gpmf_pieces(s: &[u8], b: u8) -> usize
     ensures { λ r. ⌜ r ≡ length (piecesOf b (now (s .entry))) ⌝ }
 {
-    line::pieces(s, b)
+    pieces::pieces(s, b)
 }
 
 // The number in decimal digits.

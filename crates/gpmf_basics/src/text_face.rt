@@ -38,7 +38,7 @@ pub extern "C" fn gpmf_utf8_len(text: &[u8]) -> usize
 pub extern "C" fn gpmf_is_utf8(text: &[u8]) -> bool
     ensures { λ r. ⌜ r ≡ wellFormed (now (text .entry)) ⌝ }
 {
-    texts::is_utf8(text)
+    utf8::is_utf8(text)
 }
 
 // Whether several texts are.
@@ -46,7 +46,7 @@ pub extern "C" fn gpmf_is_utf8(text: &[u8]) -> bool
 pub extern "C" fn gpmf_are_utf8(texts: &[u8], size: usize) -> bool
     ensures { λ r. ⌜ r ≡ areWellFormed size (now (texts .entry)) ⌝ }
 {
-    texts::are_utf8(texts, size)
+    utf8::are_utf8(texts, size)
 }
 
 // A date in milliseconds since 1970.

@@ -1,20 +1,21 @@
 // Axes.
 use axes::Axes;
+use matrix_answers::Matrix;
 use orientation_answers::AxesAnswer;
-use orientation_answers::Matrix;
 use orientation_answers::OrientationsAnswer;
 ghost use mathlib.Core.Path.{_≡_};
 ghost use Rattle.axes.specs.Matrix.{orientationsOf, matrixOf};
 ghost use Rattle.axes.specs.Back.{orientationOf, orientationIn};
 ghost use Rattle.orientation.specs.Group.{orientationOfGroup};
-ghost use Rattle.orientation_answers.specs.Answers.{ofOrientations, ofMatrix, toMatrix, ofOrientation, ofOriented};
+ghost use Rattle.matrix_answers.specs.Answers.{ofMatrix, toMatrix};
+ghost use Rattle.orientation_answers.specs.Answers.{ofOrientations, ofOrientation, ofOriented};
 
 // The axes of the texts of ORIN and ORIO.
 #[no_mangle]
 pub extern "C" fn gpmf_orientations_of(orin: &[u8], orio: &[u8]) -> OrientationsAnswer
     ensures { λ r. ⌜ r ≡ ofOrientations (orientationsOf (now (orin .entry)) (now (orio .entry))) ⌝ }
 {
-    orientation_answers::of_orientations(axes::orientations_of(orin, orio))
+    orientation_answers::of_orientations(axes_to_matrix::orientations_of(orin, orio))
 }
 
 // The matrix from ORIN to ORIO.
@@ -22,7 +23,7 @@ pub extern "C" fn gpmf_orientations_of(orin: &[u8], orio: &[u8]) -> Orientations
 pub extern "C" fn gpmf_orientations_to_matrix(orin: Axes, orio: Axes) -> Matrix
     ensures { λ r. ⌜ r ≡ ofMatrix (matrixOf orin orio) ⌝ }
 {
-    orientation_answers::of_matrix(axes::orientations_to_matrix(orin, orio))
+    matrix_answers::of_matrix(axes_to_matrix::orientations_to_matrix(orin, orio))
 }
 
 // The axes that a matrix names.
@@ -30,7 +31,7 @@ pub extern "C" fn gpmf_orientations_to_matrix(orin: Axes, orio: Axes) -> Matrix
 pub extern "C" fn gpmf_matrix_to_orientation(matrix: Matrix) -> AxesAnswer
     ensures { λ r. ⌜ r ≡ ofOrientation (orientationOf (toMatrix matrix)) ⌝ }
 {
-    orientation_answers::of_orientation(axes::matrix_to_orientation(orientation_answers::to_matrix(
+    orientation_answers::of_orientation(matrix_to_axes::matrix_to_orientation(matrix_answers::to_matrix(
         matrix,
     )))
 }
@@ -40,7 +41,7 @@ pub extern "C" fn gpmf_matrix_to_orientation(matrix: Matrix) -> AxesAnswer
 pub extern "C" fn gpmf_mtrx_to_orientation(mtrx: &[f32]) -> AxesAnswer
     ensures { λ r. ⌜ r ≡ ofOrientation (orientationIn (now (mtrx .entry))) ⌝ }
 {
-    orientation_answers::of_orientation(axes::mtrx_to_orientation(mtrx))
+    orientation_answers::of_orientation(matrix_to_axes::mtrx_to_orientation(mtrx))
 }
 
 // The axes of a group's readings.

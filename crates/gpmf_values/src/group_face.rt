@@ -3,11 +3,11 @@ use answers::ItemAnswer;
 use answers::WholeAnswer;
 use klv::KLV;
 use orientation_answers::QuaternionAnswer;
-use quaternions::Quaternion;
+use scaling::Quaternion;
 use value_answers::RealAnswer;
 ghost use mathlib.Core.Path.{_≡_};
 ghost use Rattle.tagged.specs.Tagged.{taggedOf, oneNumber};
-ghost use Rattle.quaternions.specs.Quaternion.{negated16, scaledBy};
+ghost use Rattle.scaling.specs.Quaternion.{negated16, scaledBy};
 ghost use Rattle.quaternions.specs.Scaled.{quaternionOf};
 ghost use Rattle.stamps.specs.Stamp.{stampOf};
 ghost use Rattle.durations.specs.Average.{averageOf};
@@ -44,7 +44,7 @@ pub extern "C" fn gpmf_is_one_number(klv: KLV, letter: u8) -> bool
 pub extern "C" fn gpmf_negated(x: i16) -> i16
     ensures { λ r. ⌜ r ≡ negated16 x ⌝ }
 {
-    quaternions::negated(x)
+    scaling::negated(x)
 }
 
 // A quaternion over a scale.
@@ -52,7 +52,7 @@ pub extern "C" fn gpmf_negated(x: i16) -> i16
 pub extern "C" fn gpmf_scaled(w: i16, x: i16, y: i16, z: i16, scale: f64) -> Quaternion
     ensures { λ r. ⌜ r ≡ scaledBy scale w x y z ⌝ }
 {
-    quaternions::scaled(w, x, y, z, scale)
+    scaling::scaled(w, x, y, z, scale)
 }
 
 // The scaled quaternion of a row of a group.

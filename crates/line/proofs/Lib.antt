@@ -1,4 +1,2 @@
 pub mod Decoding
-pub mod Finding
 pub mod Reading
-pub mod Splitting

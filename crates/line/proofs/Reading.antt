@@ -3,32 +3,25 @@ use Prim.Native.Nat.{ℕ, zero, suc, _+_, _*_, _-_, _/_, _^_, _≤_, _<_}
 use mathlib.Core.Path.{_≡_, refl, ap, _∙_}
 use mathlib.Core.Bool.{Bool, true, false, false≢true, _&&_}
 use mathlib.Core.List.{List, [], _∷_}
-use native.Mathlib.Nat.{le-refl, zero-add, mul-one, mul-le-mul-left, pow-zero, one-le-pow, add-zero, not-suc-le-zero, le-div-iff-mul-le, div-lt-iff-lt-mul}
+use native.Mathlib.Nat.{mul-one, mul-le-mul-left, pow-zero, one-le-pow, add-zero, not-suc-le-zero, le-div-iff-mul-le, div-lt-iff-lt-mul}
 use native.Mathlib.Omega.{arith}
 use borrow.Author.Tests.{lt-ltb, le-ltb, ltb-true}
-use lib.Dec.{ltb, eqb}
+use lib.Dec.{ltb}
 use lib.ListN.{length, getD, drop, drop-of-length-le}
 use lib.Seq.{drop-cons}
 use Rattle.foundation.specs.Digits.{digits}
-use Rattle.foundation.specs.Pieces.{countOne, before}
+use Rattle.foundation.specs.Pieces.{before, piecesOf}
 use Rattle.foundation.specs.Digits.{worthOf, areDigits, worth}
 use Rattle.foundation.proofs.Digits.{digit-read}
+use Rattle.pieces.proofs.Splitting.{before-length, first-length}
 use Rattle.line.specs.Read.{worthIn64, bytesIn}
 use Rattle.line.specs.declared.Number.the-variants.{Is, NotOne}
 
-one-more : (t : Bool) (n m : ℕ) → n ≤ m → countOne t n ≤ suc m
-one-more true n m h = omega arith
-one-more false n m h = omega arith
-
-pub before-length : (b : ℕ) (s : List ℕ) → before b s ≤ length s
-before-length b [] = le-refl 0
-before-length b (c ∷ s) = one-more (eqb c b) (before b s) (length s) (before-length b s)
-
--- what a search among the digits finds
-pub worth-found : (c r : ℕ) → r ≡ 0 + before c digits → (r ≡ worthOf c) × (r ≤ 16)
+-- as many digits as stand before a digit
+pub worth-found : (c : ℕ) (smaller : List ℕ) → smaller ≡ getD (piecesOf c digits) 0 [] → (length smaller ≡ worthOf c) × (length smaller ≤ 16)
 unfolding worthOf
-worth-found c r h =
-    let is : r ≡ before c digits = h ∙ zero-add (before c digits) in
+worth-found c smaller h =
+    let is : length smaller ≡ before c digits = ap (λ (t : List ℕ). length t) h ∙ first-length c digits in
     (is, rw is (before-length c digits))
 
 module _ (base : ℕ) (s : List ℕ) (i : ℕ) where

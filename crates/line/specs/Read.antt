@@ -1,21 +1,16 @@
--- What is read out of a line: up to a byte, a number, bytes in hex. The other way round from Numerals. Assumes nothing: these are definitions.
+-- What is read out of a line: a number, bytes in hex. The other way round from Numerals. Assumes nothing: these are definitions.
 use Prim.Native.Nat.{ℕ, _+_, _*_, _%_, _^_}
 use mathlib.Core.Path.{_≡_}
 use mathlib.Core.Bool.{Bool, cond, _&&_}
 use mathlib.Core.List.{List, [], _∷_}
 use lib.Dec.{ltb, eqb}
-use lib.ListN.{length, take}
+use lib.ListN.{length}
 use Rattle.text.specs.Lay.{fits, laid}
-use Rattle.foundation.specs.Pieces.{before}
 use Rattle.foundation.specs.Digits.{worthOf, areDigits, worth}
 use Rattle.line.specs.declared.Number.{Number}
 use Rattle.line.specs.declared.Number.the-variants.{Is, NotOne}
 use Rattle.line.specs.declared.Decoded.{Decoded}
 use Rattle.line.specs.declared.Decoded.the-variants.{Bytes, NoRoom, NotHex}
-
--- the bytes before the first that is b
-abbrev pub upTo : ℕ → List ℕ → List ℕ
-upTo b s = take (before b s) s
 
 -- what digits are worth together as a number of 64 bits, where it is one
 unfoldable pub worthIn64 : ℕ → List ℕ → Number

@@ -1,13 +1,11 @@
-// What is read out of a line: its pieces, numbers, bytes in hex.
+// What is read out of a piece of a line: numbers, bytes in hex.
 ghost use mathlib.Core.Path.{_≡_};
 ghost use mathlib.Core.Bool.{true};
-ghost use mathlib.Core.List.{[]};
 ghost use Prim.Native.Nat.{_+_, _*_, _<_, _≤_};
-ghost use lib.ListN.{length, getD, drop};
+ghost use lib.ListN.{length};
 ghost use Rattle.text.specs.Lay.{over};
-ghost use Rattle.foundation.specs.Pieces.{before, piecesOf};
 ghost use Rattle.foundation.specs.Digits.{worthOf, areDigits};
-ghost use Rattle.line.specs.Read.{upTo, worthIn64, numberIn, bytesIn, Decodes};
+ghost use Rattle.line.specs.Read.{worthIn64, numberIn, bytesIn, Decodes};
 
 // A number in a text, or that the text is no number of 64 bits.
 pub enum Number {
@@ -20,69 +18,6 @@ pub enum Decoded {
     Bytes(usize),
     NoRoom,
     NotHex,
-}
-
-// How many pieces a text falls into, each ended by a byte or by the end: the words of a line, where the byte is a space.
-pub fn pieces(s: &[u8], b: u8) -> usize
-    ensures { λ r. ⌜ r ≡ length (piecesOf b (now (s .entry))) ⌝ }
-{
-    let mut count: usize = 1;
-    let mut i: usize = 0;
-    while i < s.len() {
-        if s[i] == b {
-            count += 1;
-        }
-        i += 1;
-    }
-    count
-}
-
-// A piece of a text, counted from 0; nothing where there is none.
-pub fn piece(s: &[u8], b: u8, index: usize) -> &[u8]
-    ensures { λ r. ⌜ now r ≡ getD (piecesOf b (now (s .entry))) index [] ⌝ }
-{
-    up_to(s, start(s, b, index), b)
-}
-
-// Where a piece starts: past the end where there is none.
-fn start(s: &[u8], b: u8, index: usize) -> usize
-    ensures { λ r. ⌜ upTo b (drop r (now (s .entry))) ≡ getD (piecesOf b (now (s .entry))) index [] ⌝ }
-{
-    let mut from: usize = 0;
-    let mut left = index;
-    while left > 0 {
-        if s.len() < from {
-            return from;
-        }
-        from = find(s, from, b) + 1;
-        left -= 1;
-    }
-    from
-}
-
-// The bytes from a place up to the first b there, or to the end. None at a place past the end.
-fn up_to(s: &[u8], from: usize, b: u8) -> &[u8]
-    ensures { λ r. ⌜ now r ≡ upTo b (drop from (now (s .entry))) ⌝ }
-{
-    if s.len() < from {
-        return &s[..0];
-    }
-    let end = find(s, from, b);
-    &s[from..end]
-}
-
-// The place of the first b from a place on, or the end.
-fn find(s: &[u8], from: usize, b: u8) -> usize
-    ensures { λ r. ⌜ r ≡ from + before b (drop from (now (s .entry))) ⌝ }
-{
-    let mut i = from;
-    while i < s.len() {
-        if s[i] == b {
-            return i;
-        }
-        i += 1;
-    }
-    i
 }
 
 // The number in a text of decimal digits.
@@ -143,12 +78,13 @@ fn are_digits(s: &[u8], base: u64) -> bool
     true
 }
 
-// What a digit is worth; 16 for a character that is none.
+// What a digit is worth, as many as stand before it; 16 for a character that is none.
 fn digit_worth(c: u8) -> u64
     ensures { λ r. ⌜ (r ≡ worthOf c) × (r ≤ 16) ⌝ }
 {
     let digits = b"0123456789abcdef";
-    find(digits, 0, c) as u64
+    let smaller = pieces::piece(digits, c, 0);
+    smaller.len() as u64
 }
 
 // The bytes in a text of small hex digits, laid at the front of a lent buffer.

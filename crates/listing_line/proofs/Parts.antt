@@ -6,7 +6,7 @@ use Rattle.foundation.specs.Text.{characters}
 use Rattle.rows.specs.declared.Row.{Row}
 use Rattle.walk.specs.declared.Metadata.{Metadata}
 use Rattle.walk.specs.declared.Metadata.the-variants.{Rows, Refused}
-use Rattle.text.specs.Numerals.{decimal}
+use Rattle.numerals.specs.Numerals.{decimal}
 use Rattle.shown_key.specs.Key.{shownKey}
 use Rattle.listing_line.specs.Line.{spaced, shownGroup, columns, answerLine, groupIn, rowLine}
 

@@ -15,9 +15,9 @@ use Rattle.reading.specs.Record.{Group, callers, named}
 use Rattle.rows.specs.declared.Row.{Row}
 use Rattle.walk.specs.declared.Metadata.{Metadata}
 use Rattle.walk.specs.declared.Metadata.the-variants.{Rows, Refused}
-use Rattle.text.specs.Numerals.{lastDigits, decimal}
-use Rattle.text.proofs.Decimal.{length-one, length-more}
-use Rattle.text.proofs.Spelling.{length-lastDigits}
+use Rattle.numerals.specs.Numerals.{lastDigits, decimal}
+use Rattle.numerals.proofs.Decimal.{length-one, length-more}
+use Rattle.numerals.proofs.Spelling.{length-lastDigits}
 use Rattle.shown_key.specs.Key.{allVisible, shownKey}
 use Rattle.listing_line.specs.Line.{shownGroup, columns, answerLine, groupIn, headerIn, rowLine}
 use Rattle.listing_line.specs.Lines.{longestLine}

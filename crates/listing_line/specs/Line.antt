@@ -11,7 +11,7 @@ use Rattle.reading.specs.Record.{Group, callers, named}
 use Rattle.rows.specs.declared.Row.{Row}
 use Rattle.walk.specs.declared.Metadata.{Metadata}
 use Rattle.walk.specs.declared.Metadata.the-variants.{Rows, Refused}
-use Rattle.text.specs.Numerals.{decimal}
+use Rattle.numerals.specs.Numerals.{decimal}
 use Rattle.shown_key.specs.Key.{shownKey}
 
 -- a word with the space behind it

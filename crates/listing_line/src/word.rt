@@ -3,7 +3,7 @@ use rows::Row;
 use walk::Metadata;
 ghost use mathlib.Core.List.{[], _∷_, _++_};
 ghost use Prim.Native.Nat.{_/_, _%_, _^_};
-ghost use Rattle.text.specs.Numerals.{decimal};
+ghost use Rattle.numerals.specs.Numerals.{decimal};
 ghost use Rattle.shown_key.specs.Key.{shownKey};
 ghost use Rattle.listing_line.specs.Line.{spaced, shownGroup, groupIn, answerLine, rowLine};
 ghost use Rattle.listing_line.specs.Lines.{Joins, Makes};
@@ -52,7 +52,7 @@ fn put_pair(out: &mut [u8], at: usize, word: &[u8], n: u64, end: u8) -> usize
 fn put_number(out: &mut [u8], at: usize, n: u64, end: u8) -> usize
     ensures { λ r. ⌜ Joins (decimal n ++ end ∷ []) (now (out .entry)) at r (now (out .exit)) ⌝ }
 {
-    let number = text::put_decimal(out, at, n);
+    let number = numerals::put_decimal(out, at, n);
     text::put(out, number, end)
 }
 

@@ -120,10 +120,10 @@ fn by_matrix(s: &[u8], at: usize, klv: KLV) -> Oriented
         if serves(columns) {
             if columns == 9 {
                 let mtrx = nine(s, at);
-                return told_by(axes::mtrx_to_orientation(&mtrx));
+                return told_by(matrix_to_axes::mtrx_to_orientation(&mtrx));
             }
             return Oriented::Refused {
-                number: axes::NO_MATRIX,
+                number: matrix_to_axes::NO_MATRIX,
                 place: 0,
             };
         }
@@ -138,7 +138,10 @@ fn by_orientations(orientations: Orientations) -> Oriented
     match orientations {
         Orientations::Refused { number, place } => Oriented::Refused { number, place },
         Orientations::Are { orin, orio } =>
-            told_by(axes::matrix_to_orientation(axes::orientations_to_matrix(orin, orio))),
+            told_by(matrix_to_axes::matrix_to_orientation(axes_to_matrix::orientations_to_matrix(
+                orin,
+                orio,
+            ))),
     }
 }
 
@@ -163,7 +166,10 @@ fn by_texts(s: &[u8], i: usize, orin: KLV, o: usize, orio: KLV) -> Oriented
             let o_end = text_end(s, o, orio);
             let i_start = i + Cursor::HEADER;
             let o_start = o + Cursor::HEADER;
-            return by_orientations(axes::orientations_of(&s[i_start..i_end], &s[o_start..o_end]));
+            return by_orientations(axes_to_matrix::orientations_of(
+                &s[i_start..i_end],
+                &s[o_start..o_end],
+            ));
         }
     }
     Oriented::Nothing

@@ -1,9 +1,6 @@
--- What axes, a quaternion and a matrix are told as to a caller in another language: a record of numbers, of which those that the answer does not have
+-- What axes and a quaternion are told as to a caller in another language: a record of numbers, of which those that the answer does not have
 -- are 0 (document 01, Refusal numbers: "A refusal returns its number, a place and zeros"). Assumes nothing: these are definitions.
-use Prim.Native.Nat.{ℕ, _+_}
-use lib.Ieee.{Float, nan}
-use mathlib.Core.List.{List, [], _∷_}
-use lib.ListN.{getD}
+use Prim.Native.Nat.{ℕ}
 use Rattle.axes.specs.declared.Axes.{Axes}
 use Rattle.axes.specs.declared.Orientation.{Orientation}
 use Rattle.axes.specs.declared.Orientation.the-variants as orientation
@@ -11,14 +8,13 @@ use Rattle.axes.specs.declared.Orientations.{Orientations}
 use Rattle.axes.specs.declared.Orientations.the-variants as texts
 use Rattle.orientation.specs.declared.Oriented.{Oriented}
 use Rattle.orientation.specs.declared.Oriented.the-variants as oriented
-use Rattle.quaternions.specs.declared.Quaternion.{Quaternion}
+use Rattle.scaling.specs.declared.Quaternion.{Quaternion}
 use Rattle.quaternions.specs.declared.ScaledRow.{ScaledRow}
 use Rattle.quaternions.specs.declared.ScaledRow.the-variants as scaled
 use Rattle.answer_kinds.specs.Kinds.{refused, is, nothing, nought}
 use Rattle.orientation_answers.specs.declared.AxesAnswer.{AxesAnswer}
 use Rattle.orientation_answers.specs.declared.OrientationsAnswer.{OrientationsAnswer}
 use Rattle.orientation_answers.specs.declared.QuaternionAnswer.{QuaternionAnswer}
-use Rattle.orientation_answers.specs.declared.Matrix.{Matrix}
 
 -- ---- axes
 
@@ -65,22 +61,3 @@ abbrev pub ofScaledRow : ScaledRow → QuaternionAnswer
 ofScaledRow (scaled.Is q) = quaternion is 0 0 q
 ofScaledRow scaled.Nothing = quaternion nothing 0 0 noQuaternion
 ofScaledRow (scaled.Refused number place) = quaternion refused number place noQuaternion
-
--- ---- a matrix, row by row
-
--- the number at a row and a column
-abbrev pub entry : List (List Float) → ℕ → ℕ → Float
-entry m r column = getD (getD m r []) column nan
-
--- nine numbers
-abbrev pub ofMatrix : List (List Float) → Matrix
-ofMatrix m =
-    record { entries = entry m 0 0 ∷ entry m 0 1 ∷ entry m 0 2 ∷ entry m 1 0 ∷ entry m 1 1 ∷ entry m 1 2 ∷ entry m 2 0 ∷ entry m 2 1 ∷ entry m 2 2 ∷ [] }
-
--- three of nine numbers, from a place on
-abbrev pub rowFrom : List Float → ℕ → List Float
-rowFrom s n = getD s n nan ∷ getD s (n + 1) nan ∷ getD s (n + 2) nan ∷ []
-
--- the same back
-abbrev pub toMatrix : Matrix → List (List Float)
-toMatrix m = rowFrom (m .entries) 0 ∷ rowFrom (m .entries) 3 ∷ rowFrom (m .entries) 6 ∷ []

@@ -1,4 +1,4 @@
-// Axes, quaternions and matrices as plain records of numbers, for callers in other languages, as crate `answers` has it.
+// Axes and quaternions as plain records of numbers, for callers in other languages, as crate `answers` has it.
 use answer_kinds::IS;
 use answer_kinds::NOTHING;
 use answer_kinds::REFUSED;
@@ -6,8 +6,8 @@ use axes::Axes;
 use axes::Orientation;
 use axes::Orientations;
 use orientation::Oriented;
-use quaternions::Quaternion;
 use quaternions::ScaledRow;
+use scaling::Quaternion;
 ghost use mathlib.Core.Path.{_≡_};
 ghost use Rattle.orientation_answers.specs.Answers as tells;
 
@@ -130,39 +130,4 @@ pub fn of_scaled_row(x: ScaledRow) -> QuaternionAnswer
         ScaledRow::Nothing => quaternion(NOTHING, 0, 0, NO_QUATERNION),
         ScaledRow::Refused { number, place } => quaternion(REFUSED, number, place, NO_QUATERNION),
     }
-}
-
-// Nine numbers, row by row.
-#[repr(C)]
-pub struct Matrix {
-    pub entries: [f32; 9],
-}
-
-pub fn of_matrix(m: [[f32; 3]; 3]) -> Matrix
-    ensures { λ r. ⌜ r ≡ tells.ofMatrix m ⌝ }
-{
-    let first = m[0];
-    let second = m[1];
-    let third = m[2];
-    Matrix {
-        entries: [
-            first[0],
-            first[1],
-            first[2],
-            second[0],
-            second[1],
-            second[2],
-            third[0],
-            third[1],
-            third[2],
-        ],
-    }
-}
-
-// The same back.
-pub fn to_matrix(m: Matrix) -> [[f32; 3]; 3]
-    ensures { λ r. ⌜ r ≡ tells.toMatrix m ⌝ }
-{
-    let e = m.entries;
-    [[e[0], e[1], e[2]], [e[3], e[4], e[5]], [e[6], e[7], e[8]]]
 }

@@ -25,7 +25,7 @@ pub fn element_of(
     match plan::plan_of(klv, payload) {
         Plan::Even(grid) => grid::element(grid, place, payload, row, column),
         Plan::Texts => text_values::element(place, klv, payload, row, column),
-        Plan::Date => text_values::date_element(place, payload, row, column),
+        Plan::Date => date_values::date_element(place, payload, row, column),
         Plan::Structures => structures::element(place, klv, payload, type_text, row, column),
     }
 }
@@ -37,7 +37,7 @@ pub fn shape_of(place: usize, klv: KLV, payload: &[u8], type_text: &[u8]) -> Sha
     match plan::plan_of(klv, payload) {
         Plan::Even(grid) => grid::shape(grid, place, payload),
         Plan::Texts => text_values::shape(place, klv, payload),
-        Plan::Date => text_values::date_shape(place, payload),
+        Plan::Date => date_values::date_shape(place, payload),
         Plan::Structures => structures::shape(place, klv, payload, type_text),
     }
 }
@@ -64,7 +64,7 @@ pub fn columns_of(place: usize, klv: KLV, payload: &[u8], type_text: &[u8], row:
     match plan::plan_of(klv, payload) {
         Plan::Even(grid) => columns_by(grid::shape(grid, place, payload), place, row),
         Plan::Texts => text_values::columns(place, klv, payload, row),
-        Plan::Date => columns_by(text_values::date_shape(place, payload), place, row),
+        Plan::Date => columns_by(date_values::date_shape(place, payload), place, row),
         Plan::Structures => columns_by(
             structures::shape(place, klv, payload, type_text),
             place,

@@ -19,7 +19,7 @@ use Rattle.tagged.specs.declared.Tagged.{Tagged}
 use Rattle.tagged.specs.declared.Tagged.the-variants as tagged
 use Rattle.tagged.proofs.Laws.{item-there}
 use Rattle.tagged.proofs.Numbers.{s-held}
-use Rattle.quaternions.specs.Quaternion.{scaledBy}
+use Rattle.scaling.specs.Quaternion.{scaledBy}
 use Rattle.tagged.specs.Read.{readAt}
 use Rattle.quaternions.specs.Scaled.{numberOf, numberAt, usual, scaleRead, scaleBy, scaleOf, ofFour, quaternionAt, quaternionBy, quaternionIn, quaternionOf}
 use Rattle.quaternions.specs.Ready.{Halves}

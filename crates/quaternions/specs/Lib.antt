@@ -1,3 +1,2 @@
-pub mod Quaternion
 pub mod Scaled
 pub mod Ready

@@ -16,7 +16,7 @@ use Rattle.tagged.specs.Number.{signedNumber}
 use Rattle.tagged.specs.Read.{readAt}
 use Rattle.tagged.specs.declared.Tagged.{Tagged}
 use Rattle.tagged.specs.declared.Tagged.the-variants as tagged
-use Rattle.quaternions.specs.Quaternion.{scaledBy}
+use Rattle.scaling.specs.Quaternion.{scaledBy}
 use Rattle.quaternions.specs.declared.Number.{Number}
 use Rattle.quaternions.specs.declared.Number.the-variants as number
 use Rattle.quaternions.specs.declared.Scale.{Scale}

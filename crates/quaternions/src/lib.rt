@@ -6,41 +6,14 @@ use keys::names::SCAL;
 use keys::tags::DATA;
 use keys::tags::SCALE;
 use klv::KLV;
+use scaling::Quaternion;
 use tagged::Tagged;
 use value::Read;
 ghost use mathlib.Core.Path.{_≡_};
 ghost use Rattle.tagged.specs.Number.{signedNumber, Sixteen};
 ghost use Rattle.value.specs.Value.{isQuaternions};
-ghost use Rattle.quaternions.specs.Quaternion.{negated16, scaledBy};
 ghost use Rattle.quaternions.specs.Scaled.{numberAt, scaleOf, quaternionAt, quaternionOf};
 ghost use Rattle.quaternions.specs.Ready.{Halves};
-
-#[repr(C)]
-pub struct Quaternion {
-    pub w: f64,
-    pub x: f64,
-    pub y: f64,
-    pub z: f64,
-}
-
-// 0 less x in 16 bits: -32,768 stays.
-pub fn negated(x: i16) -> i16
-    ensures { λ r. ⌜ r ≡ negated16 x ⌝ }
-{
-    if x == -32768 { x } else { 0 - x }
-}
-
-// The numbers of a quaternion by a scale, x negated first.
-pub fn scaled(w: i16, x: i16, y: i16, z: i16, scale: f64) -> Quaternion
-    ensures { λ r. ⌜ r ≡ scaledBy scale w x y z ⌝ }
-{
-    Quaternion {
-        w: w as f64 / scale,
-        x: negated(x) as f64 / scale,
-        y: y as f64 / scale,
-        z: z as f64 / scale,
-    }
-}
 
 // The number of an element of the letter s.
 fn sixteen(e: Element) -> i16
@@ -133,7 +106,7 @@ fn quaternion_at(s: &[u8], at: usize, row: usize, scale: f64) -> ScaledRow
                 Number::Refused { number, place } => ScaledRow::Refused { number, place },
                 Number::Is(y) => match number_at(s, at, row, 3) {
                     Number::Refused { number, place } => ScaledRow::Refused { number, place },
-                    Number::Is(z) => ScaledRow::Is(scaled(w, x, y, z, scale)),
+                    Number::Is(z) => ScaledRow::Is(scaling::scaled(w, x, y, z, scale)),
                 },
             },
         },

@@ -15,7 +15,7 @@ use line::Number;
 
 // The last word of every question is in hex.
 pub(crate) fn answer(question: &[u8]) {
-    let words = line::pieces(question, b' ');
+    let words = pieces::pieces(question, b' ');
     let mut bytes = [0u8; 8192];
     match words::unhex_word(word(question, if words == 3 { 2 } else { 1 }), &mut bytes) {
         Decoded::Bytes(count) => answer_of(words, question, words::part(&bytes, 0, count)),
@@ -24,7 +24,7 @@ pub(crate) fn answer(question: &[u8]) {
 }
 
 fn word(question: &[u8], index: usize) -> &[u8] {
-    line::piece(question, b' ', index)
+    pieces::piece(question, b' ', index)
 }
 
 fn write_unknown() {

@@ -11,14 +11,14 @@ const MOST: usize = 64;
 // The answer is written, without the end of its line.
 pub(crate) fn answer(question: &[u8]) {
     if check::same(word(question, 0), b"average") {
-        answer_average(question, line::pieces(question, b' '));
+        answer_average(question, pieces::pieces(question, b' '));
     } else {
         write_unknown();
     }
 }
 
 fn word(question: &[u8], index: usize) -> &[u8] {
-    line::piece(question, b' ', index)
+    pieces::piece(question, b' ', index)
 }
 
 fn write_unknown() {
@@ -79,7 +79,7 @@ fn first_flags(flags: &[u8], words: usize) -> &[u8] {
 
 // A part of what is said of the packet at an index.
 fn part(question: &[u8], index: usize, at: usize) -> &[u8] {
-    line::piece(word(question, index), b':', at)
+    pieces::piece(word(question, index), b':', at)
 }
 
 fn number_in(question: &[u8], index: usize, at: usize) -> u64 {

@@ -18,7 +18,7 @@ pub(crate) fn answer(question: &[u8]) {
 }
 
 fn word(question: &[u8], index: usize) -> &[u8] {
-    line::piece(question, b' ', index)
+    pieces::piece(question, b' ', index)
 }
 
 fn write_unknown() {
@@ -40,7 +40,7 @@ fn answer_of(question: &[u8], bytes: &[u8]) {
 fn answer_matrix(orin: &[u8], hex: &[u8]) {
     let mut orio = [0u8; 64];
     match words::unhex_word(hex, &mut orio) {
-        Decoded::Bytes(count) => write_matrix(axes::orientations_of(
+        Decoded::Bytes(count) => write_matrix(axes_to_matrix::orientations_of(
             orin,
             words::part(&orio, 0, count),
         )),
@@ -50,7 +50,10 @@ fn answer_matrix(orin: &[u8], hex: &[u8]) {
 
 fn write_matrix(orientations: Orientations) {
     match orientations {
-        Orientations::Are { orin, orio } => write_rows(axes::orientations_to_matrix(orin, orio)),
+        Orientations::Are { orin, orio } => write_rows(axes_to_matrix::orientations_to_matrix(
+            orin,
+            orio,
+        )),
         _ => write(b"none"),
     }
 }
@@ -73,7 +76,7 @@ fn write_row(mark: u8, row: [f32; 3]) {
 fn answer_back(bytes: &[u8]) {
     let mut numbers = [0.0; 16];
     fill(bytes, &mut numbers);
-    write_back(axes::mtrx_to_orientation(first_numbers(&numbers, bytes.len() / 4)));
+    write_back(matrix_to_axes::mtrx_to_orientation(first_numbers(&numbers, bytes.len() / 4)));
 }
 
 fn write_back(orientation: Orientation) {

@@ -32,8 +32,8 @@ fn write_name(shape: Shape, letter: u8) {
         b" Vec_ Vec_Vector3_ Vec_TimeVector3_ Vec_Vec_ String Vec_String Uuid u64 Vec_Quaternioni16 Vec_Scalar Vec_Vec_Scalar Unknown";
     let types: &[u8] = b" i8 u8 i16 u16 i32 u32 i64 u64 f32 f64";
     let index = kind_index(shape);
-    write(line::piece(kinds, b' ', index));
-    write(line::piece(types, b' ', type_index(index, letter)));
+    write(pieces::piece(kinds, b' ', index));
+    write(pieces::piece(types, b' ', type_index(index, letter)));
 }
 
 // The place of a kind's name among those of `write_name`.

@@ -5,9 +5,12 @@ use line::Decoded;
 
 pub(crate) fn answer(question: &[u8]) {
     let mut file = [0u8; 8192];
-    match words::unhex_word(line::piece(question, b' ', 1), &mut file) {
+    match words::unhex_word(pieces::piece(question, b' ', 1), &mut file) {
         Decoded::Bytes(count) => {
-            answer_of(line::piece(question, b' ', 0), words::part(&file, 0, count));
+            answer_of(
+                pieces::piece(question, b' ', 0),
+                words::part(&file, 0, count),
+            );
         }
         _ => write_unknown(),
     }

@@ -4,8 +4,8 @@ use crate::writing::write_byte;
 use crate::writing::write_double;
 use line::Decoded;
 use metadata::Metadata;
-use quaternions::Quaternion;
 use quaternions::ScaledRow;
+use scaling::Quaternion;
 
 const CORI: u32 = 0x434f5249;
 

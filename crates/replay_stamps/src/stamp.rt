@@ -21,7 +21,7 @@ pub(crate) fn write(s: &[u8]) {
 }
 
 fn word(question: &[u8], index: usize) -> &[u8] {
-    line::piece(question, b' ', index)
+    pieces::piece(question, b' ', index)
 }
 
 fn write_unknown() {

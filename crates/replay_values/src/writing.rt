@@ -14,7 +14,7 @@ pub(crate) fn write_decimal(n: u64) {
 
 pub(crate) fn write_signed(n: i64) {
     let mut digits = [0u8; 20];
-    let end = text::put_signed(&mut digits, 0, n);
+    let end = numerals::put_signed(&mut digits, 0, n);
     write(words::part(&digits, 0, end));
 }
 

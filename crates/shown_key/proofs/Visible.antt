@@ -10,8 +10,8 @@ use lib.Seq.{drop-cons}
 use Rattle.foundation.specs.BigEndian.{bytesOf}
 use Rattle.foundation.specs.Text.{characters}
 use Rattle.text.specs.Lay.{laid}
-use Rattle.text.specs.Numerals.{lastDigits}
-use Rattle.text.proofs.Spelling.{length-lastDigits}
+use Rattle.numerals.specs.Numerals.{lastDigits}
+use Rattle.numerals.proofs.Spelling.{length-lastDigits}
 use Rattle.shown_key.specs.Key.{visible, allVisible, shownKey}
 
 pub below : (b : ℕ) → b < 33 → false ≡ visible b

@@ -6,7 +6,7 @@ use mathlib.Core.List.{List, [], _∷_, _++_}
 use lib.Dec.{leb}
 use Rattle.foundation.specs.BigEndian.{bytesOf}
 use Rattle.foundation.specs.Text.{characters}
-use Rattle.text.specs.Numerals.{lastDigits}
+use Rattle.numerals.specs.Numerals.{lastDigits}
 
 -- "33 to 126"
 abbrev pub visible : ℕ → Bool

@@ -13,7 +13,7 @@ pub fn put_key(out: &mut [u8], at: usize, key: u32) -> usize
         return text::put_bytes(out, at, &bytes);
     }
     let mut hex = [b'x'; 9];
-    text::put_hex(&mut hex, 1, key as u64, 8);
+    numerals::put_hex(&mut hex, 1, key as u64, 8);
     text::put_bytes(out, at, &hex)
 }
 

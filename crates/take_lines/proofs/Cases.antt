@@ -6,7 +6,7 @@ use mathlib.Core.Bool.{true, false}
 use mathlib.Core.List.{List, [], _∷_, map, flatten}
 use Rattle.foundation.specs.Fuel.{run, fix}
 use Rattle.foundation.specs.Text.{characters}
-use Rattle.text.specs.Numerals.{decimal}
+use Rattle.numerals.specs.Numerals.{decimal}
 use Rattle.listing_line.specs.Line.{answerLine}
 use Rattle.take_lines.specs.Lines.{packetLine, longPacket, totalsLine}
 

@@ -7,7 +7,7 @@ use mathlib.Core.List.{List, [], _∷_, _++_}
 use Rattle.foundation.specs.Text.{characters}
 use Rattle.reading.specs.Refusal.{tooLong}
 use Rattle.reading.specs.Walk.{accepted, refused}
-use Rattle.text.specs.Numerals.{decimal}
+use Rattle.numerals.specs.Numerals.{decimal}
 use Rattle.listing.specs.Listing.{listing}
 use Rattle.listing_line.specs.Lines.{laidLines, behindLines}
 

@@ -1,7 +1,7 @@
 // The lines of a take, laid into a lent buffer: that of a packet, those of a packet over what is held, and the counts.
 use metadata::Metadata;
 ghost use mathlib.Core.List.{[], _∷_};
-ghost use Rattle.text.specs.Numerals.{decimal};
+ghost use Rattle.numerals.specs.Numerals.{decimal};
 ghost use Rattle.take_lines.specs.Lines.{countsLine, packetLine, totalsLine, longPacket, LaysAll};
 
 // Lays the line of a packet, by its number, its start in the file and its length.
@@ -97,5 +97,5 @@ fn put_count(out: &mut [u8], at: usize, word: &[u8], n: u64) -> usize
     ensures { λ r. ⌜ LaysAll (now (word .entry) ∷ decimal n ∷ []) (now (out .entry)) at r (now (out .exit)) ⌝ }
 {
     let end = text::put_bytes(out, at, word);
-    text::put_decimal(out, end, n)
+    numerals::put_decimal(out, end, n)
 }

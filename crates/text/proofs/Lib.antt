@@ -1,4 +1,1 @@
-pub mod Decimal
 pub mod Laying
-pub mod Negative
-pub mod Spelling

@@ -1,4 +1,4 @@
--- The answers of several texts and of a date. Assumes nothing.
+-- The answers of several texts. Assumes nothing.
 use Prim.Native.Nat.{ℕ, _+_, _-_, _*_, _<_, _≤_}
 use Prim.Native.Char.{code}
 use mathlib.Core.Path.{_≡_, sym, ap, _∙_}
@@ -12,7 +12,6 @@ use lib.Seq.{take-all, take-nil, drop-cons, getD-take, getD-drop}
 use Rattle.foundation.specs.BigEndian.{bigEndian}
 use Rattle.klv.specs.declared.KLV.{KLV}
 use Rattle.elements.specs.declared.Element.{Element}
-use Rattle.elements.specs.declared.Element.the-variants.{Unsigned}
 use Rattle.elements.specs.Types.{widthOf}
 use Rattle.elements.specs.Element.{elementOf, elementAt}
 use Rattle.texts.specs.Kept.{upToZero}
@@ -22,9 +21,7 @@ use Rattle.value.specs.declared.Kind.the-variants as kind
 use Rattle.value.specs.declared.Read.the-variants as read
 use Rattle.value.specs.declared.Shaped.the-variants as shaped
 use Rattle.value.specs.declared.Count.the-variants as columns
-use Rattle.dates.specs.declared.Date.{Date}
-use Rattle.dates.specs.declared.Date.the-variants.{Milliseconds}
-use Rattle.value.specs.Value.{textOf, texts, dated}
+use Rattle.value.specs.Value.{textOf, texts}
 use Rattle.value.specs.Answer.{elementIn, shapeIn, columnsIn}
 
 -- a text has room for size bytes
@@ -131,14 +128,3 @@ module _ (h : KLV) (payload : List ℕ) (place size : ℕ) (is-size : size ≡ h
         element-good column x k e =
             ap read.Is (e ∙ text-byte h payload row column (omega arith) ∙ ap (λ (y : ℕ). elementAt payload y (code "B")) (sym (mul-one (row * h .size + column))))
             ∙ sym (simp (good, lt-ltb row (h .repeat) (omega arith), lt-ltb column (length (textOf h payload row)) (omega arith)))
-
--- ---- a date is one row of one column
-module _ (d : Date) (n place : ℕ) (is-date : d ≡ Milliseconds n) where
-  pub date-row : (row column : ℕ) → 0 < row → read.Refused 13 place ≡ elementIn place (dated d) row column
-  date-row row column h = rw is-date (simp (le-ltb row 1 h))
-
-  pub date-column : (row column : ℕ) → row ≤ 0 → 0 < column → read.Refused 13 place ≡ elementIn place (dated d) row column
-  date-column row column h k = rw is-date (simp (lt-ltb row 1 (omega arith), le-ltb column 1 k))
-
-  pub date-there : (row column : ℕ) → row ≤ 0 → column ≤ 0 → read.Is (Unsigned n) ≡ elementIn place (dated d) row column
-  date-there row column h k = rw is-date (simp (lt-ltb row 1 (omega arith), lt-ltb column 1 (omega arith)))

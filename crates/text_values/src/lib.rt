@@ -1,6 +1,4 @@
-// Values that are texts: several UTF-8 texts, and a date.
-use dates::Date;
-use elements::Element;
+// Values that are several UTF-8 texts.
 use klv::KLV;
 use klv::wide;
 use klv::wider;
@@ -12,8 +10,7 @@ use value::Shaped;
 ghost use mathlib.Core.Path.{_≡_};
 ghost use Prim.Native.Nat.{_*_, _<_};
 ghost use lib.ListN.{take, drop};
-ghost use Rattle.dates.specs.Date.{dateOf};
-ghost use Rattle.value.specs.Value.{textOf, texts, dated};
+ghost use Rattle.value.specs.Value.{textOf, texts};
 ghost use Rattle.value.specs.Answer.{elementIn, shapeIn, columnsIn};
 
 fn widest(row: u32) -> usize
@@ -50,7 +47,7 @@ pub fn row_text(klv: KLV, payload: &[u8], row: u32) -> &[u8]
 pub fn element(place: usize, klv: KLV, payload: &[u8], row: usize, column: usize) -> Read
     ensures { λ r. ⌜ r ≡ elementIn place (texts klv (now (payload .entry))) row column ⌝ }
 {
-    if !texts::are_utf8(payload, wide(klv.size)) {
+    if !utf8::are_utf8(payload, wide(klv.size)) {
         return Read::Refused { number: 7, place };
     }
     if wider(klv.repeat) <= row {
@@ -67,7 +64,7 @@ pub fn element(place: usize, klv: KLV, payload: &[u8], row: usize, column: usize
 pub fn columns(place: usize, klv: KLV, payload: &[u8], row: usize) -> Count
     ensures { λ r. ⌜ r ≡ columnsIn place (texts klv (now (payload .entry))) row ⌝ }
 {
-    if !texts::are_utf8(payload, wide(klv.size)) {
+    if !utf8::are_utf8(payload, wide(klv.size)) {
         return Count::Refused { number: 7, place };
     }
     if wider(klv.repeat) <= row {
@@ -81,7 +78,7 @@ pub fn columns(place: usize, klv: KLV, payload: &[u8], row: usize) -> Count
 pub fn shape(place: usize, klv: KLV, payload: &[u8]) -> Shaped
     ensures { λ r. ⌜ r ≡ shapeIn place (texts klv (now (payload .entry))) ⌝ }
 {
-    if !texts::are_utf8(payload, wide(klv.size)) {
+    if !utf8::are_utf8(payload, wide(klv.size)) {
         return Shaped::Refused { number: 7, place };
     }
     let first = row_text(klv, payload, 0);
@@ -90,38 +87,4 @@ pub fn shape(place: usize, klv: KLV, payload: &[u8]) -> Shaped
         rows: wider(klv.repeat),
         columns: first.len(),
     })
-}
-
-// The element of a date, which is one row of one column.
-pub fn date_element(place: usize, payload: &[u8], row: usize, column: usize) -> Read
-    ensures { λ r. ⌜ r ≡ elementIn place (dated (dateOf (now (payload .entry)))) row column ⌝ }
-{
-    match dates::parse_utcdate(payload) {
-        Date::TooFew => Read::Refused { number: 6, place },
-        Date::Unreadable => Read::Refused { number: 7, place },
-        Date::Milliseconds(n) => {
-            if 0 < row {
-                return Read::Refused { number: 13, place };
-            }
-            if 0 < column {
-                return Read::Refused { number: 13, place };
-            }
-            Read::Is(Element::Unsigned(n))
-        }
-    }
-}
-
-// The shape of a date.
-pub fn date_shape(place: usize, payload: &[u8]) -> Shaped
-    ensures { λ r. ⌜ r ≡ shapeIn place (dated (dateOf (now (payload .entry)))) ⌝ }
-{
-    match dates::parse_utcdate(payload) {
-        Date::TooFew => Shaped::Refused { number: 6, place },
-        Date::Unreadable => Shaped::Refused { number: 7, place },
-        Date::Milliseconds(_) => Shaped::Is(Shape {
-            kind: Kind::DateTime,
-            rows: 1,
-            columns: 1,
-        }),
-    }
 }

@@ -1,7 +1,5 @@
-pub mod Ascii
 pub mod Decoded
 pub mod Encoded
 pub mod Kept
 pub mod Samples
 pub mod Table
-pub mod Texts

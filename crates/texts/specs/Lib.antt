@@ -1,5 +1,4 @@
 pub mod Kept
 pub mod Utf8
 pub mod Scalar
-pub mod Expected
 pub mod Texts

@@ -21,7 +21,7 @@ pub fn part(s: &[u8], from: usize, count: usize) -> &[u8]
 pub fn line_from(s: &[u8], from: usize) -> &[u8]
     ensures { λ r. ⌜ now r ≡ lineFrom (now (s .entry)) from ⌝ }
 {
-    line::piece(part(s, from, s.len()), b'\n', 0)
+    pieces::piece(part(s, from, s.len()), b'\n', 0)
 }
 
 // The bytes that a word is in hex, laid at the front of a lent buffer: `-` is none, and a word of no characters is no hex.

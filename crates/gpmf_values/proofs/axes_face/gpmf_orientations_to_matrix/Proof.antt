@@ -1,6 +1,6 @@
 -- `gpmf_orientations_to_matrix` meets its contract: it is the call of its name, told as a record. Assumes nothing.
 use mathlib.Core.Path.{ap, _∙_}
-use Rattle.orientation_answers.specs.Answers.{ofMatrix}
+use Rattle.matrix_answers.specs.Answers.{ofMatrix}
 use borrow.Author.Needs.{needs}
 use Rattle.gpmf_values.proofs.axes_face.gpmf_orientations_to_matrix.Statement.{statement}
 use Rattle.gpmf_values.proofs.axes_face.gpmf_orientations_to_matrix.Tie as tie

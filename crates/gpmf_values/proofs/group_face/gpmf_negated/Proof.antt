@@ -1,6 +1,6 @@
 -- `gpmf_negated` meets its contract: it is the call of its name. Assumes nothing.
 use mathlib.Core.Path.{ap, _∙_}
-use Rattle.quaternions.specs.Quaternion.{negated16}
+use Rattle.scaling.specs.Quaternion.{negated16}
 use mir.Syntax.{w16}
 use mir.ValLaws.{toZ-ofZ}
 use borrow.Author.Needs.{needs}

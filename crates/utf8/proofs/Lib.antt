@@ -1,0 +1,2 @@
+mod Ascii
+mod Texts
