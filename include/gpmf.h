@@ -513,7 +513,7 @@ size_t gpmf_list(const uint8_t *payload, size_t payload_len, uint32_t *rows, siz
 /* The first line of a listing. */
 size_t gpmf_put_answer(uint8_t *out, size_t out_len, size_t at, gpmf_metadata_answer answer);
 
-/* A line for each of the first `count` rows that rows_len has room for. */
+/* A line for each of the first `count` rows; the line of the refusal with 5 at 0 alone where rows_len has no room for so many. */
 size_t gpmf_put_rows(uint8_t *out, size_t out_len, size_t at, const uint32_t *rows, size_t rows_len, size_t count);
 
 /* A packet of a take: its line, its listing, and where it is refused the listing of what stands before the place; with `whole`, nothing of a refused one. The line says

@@ -861,7 +861,8 @@ static void lines(void) {
     CHECK(gpmf_put_answer(out, 64, 20, answer) == 35 && lies(out, 20, "refused 2 at 0\n\xa5"));
     CHECK(gpmf_put_answer(out, 64, 50, answer) == GPMF_FULL && kept_bytes(out, 50, 64) && gpmf_put_answer(NONE, 0, answer) == GPMF_FULL);
     CHECK(gpmf_put_rows(out, 64, 1, rows, LENT, 2) == 38 && lies(out, 1, "0 - DVID 76 4 1 0\n12 - DVNM 99 1 6 0\n\xa5"));
-    CHECK(gpmf_put_rows(out, 64, 40, NONE, 5) == 40 && gpmf_put_rows(NONE, 0, NONE, 0) == 0 && gpmf_put_rows(NONE, 0, rows, LENT, 1) == GPMF_FULL);
+    CHECK(gpmf_put_rows(out, 64, 40, NONE, 5) == 55 && lies(out, 40, "refused 5 at 0\n\xa5") && gpmf_put_rows(out, 64, 60, NONE, 0) == 60);
+    CHECK(gpmf_put_rows(NONE, 0, NONE, 0) == 0 && gpmf_put_rows(NONE, 0, NONE, 1) == GPMF_FULL && gpmf_put_rows(NONE, 0, rows, LENT, 1) == GPMF_FULL);
     CHECK(gpmf_put_totals(out, 64, 0, 5, 2, 3) == 27 && lies(out, 0, "packets 5 read 2 refused 3\n"));
     memset(out, 0xA5, 64);
     CHECK(gpmf_put_totals(out, 10, 0, 5, 2, 3) == GPMF_FULL && lies(out, 0, "packets 5\xa5") && gpmf_put_totals(NONE, 0, 5, 2, 3) == GPMF_FULL);

@@ -1407,7 +1407,7 @@ def put_answer(out: Union[bytearray, memoryview], at: int, answer: Union[Refusal
 
 
 def put_rows(out: Union[bytearray, memoryview], at: int, rows: Numbers, count: int) -> int:
-    """A line for each of the first `count` rows."""
+    """A line for each of the first `count` rows; the line of the refusal with 5 at 0 alone where `rows` has no room for so many."""
     return int(_call("gpmf_put_rows", *_out(out, at), _numbers(rows), _size(count)))
 
 

@@ -341,6 +341,7 @@ class Printing(Refusing):
         end = gpmf.put_listing(CASE_12, lent, out, 10)
         self.assertEqual((end, out[:10], out[10:end].decode()), (10 + len(text), bytes(10), text))
         self.assertEqual((gpmf.put_rows(out, 0, lent, 1), out[:22]), (22, b"8 GYRO SCAL 115 2 1 1\n"))
+        self.assertEqual((gpmf.put_rows(out, 0, lent, 2), out[:15]), (15, b"refused 5 at 0\n"))
 
     def test_packets(self):
         out, lent = bytearray(200), array.array("I", bytes(32))

@@ -35,13 +35,15 @@ pub fn put_answer(out: &mut [u8], at: usize, answer: Result<Counts, Refusal>) ->
     behind(unsafe { sys::gpmf_put_answer(out.as_mut_ptr(), out.len(), at, answer) })
 }
 
-/// A line for each of the first `count` rows.
+/// A line for each of the first `count` rows; the line of the refusal with 5 at 0 alone where `rows` has no room for so many.
 ///
 /// ```
 /// let mut out = [0; 32];
 /// let reading = gpmf::Reading::of(b"ABCDB\x05\x00\x01abcde")?;
 /// let end = gpmf::put_rows(&mut out, 0, reading.numbers(), reading.len()).unwrap();
 /// assert_eq!(&out[..end], b"0 - ABCD 66 5 1 0\n");
+/// let end = gpmf::put_rows(&mut out, 0, &[], 1).unwrap();
+/// assert_eq!(&out[..end], b"refused 5 at 0\n");
 /// # Ok::<(), gpmf::Refusal>(())
 /// ```
 pub fn put_rows(out: &mut [u8], at: usize, rows: &[u32], count: usize) -> Option<usize> {

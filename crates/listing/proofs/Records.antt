@@ -1,5 +1,5 @@
 -- The lines of the rows that a reading leaves in lent numbers are the lines of its records. Assumes nothing.
-use Prim.Native.Nat.{ℕ, _/_, _%_, _≤_, min}
+use Prim.Native.Nat.{ℕ, _/_, _%_, _≤_}
 use mathlib.Core.Path.{_≡_, refl, ap, _∙_}
 use mathlib.Core.Bool.{Bool}
 use mathlib.Core.List.{List, [], _∷_, _++_, map, flatMap, List·Memᴰ, List·Memᴰ·head, List·Memᴰ·tail}
@@ -20,6 +20,7 @@ use Rattle.rows.specs.Lookup.{rowsOf}
 use Rattle.rows.proofs.Search.{rows-of-records}
 use Rattle.listing_line.specs.Line.{columns, groupIn, headerIn, rowLine}
 use Rattle.listing.specs.Listing.{recordLine, rowLines}
+use Rattle.listing.proofs.RowLines.{with-room}
 
 -- ---- a record and its row
 
@@ -58,6 +59,4 @@ same-lines (r ∷ rs) w = λ i. same-line r (w r (List·Memᴰ·head refl)) i �
 pub lines-of-records : (rs : List Record) (new rest : List ℕ) → new ≡ flatMap numbers rs ++ rest → length rs ≤ roomOf (length new)
     → ((r : Record) → List·Memᴰ r rs → Written (r .content .header)) → rowLines new (length rs) ≡ map recordLine rs
 lines-of-records rs new rest e fits w =
-    let all : min (length rs) (roomOf (length new)) ≡ length rs = omega arith in
-    ap (λ (n : ℕ). map rowLine (rowsOf n new)) all ∙ ap (λ (s : List ℕ). map rowLine (rowsOf (length rs) s)) e
-    ∙ ap (map rowLine) (rows-of-records rs rest) ∙ same-lines rs w
+    with-room new (length rs) fits ∙ ap (λ (s : List ℕ). map rowLine (rowsOf (length rs) s)) e ∙ ap (map rowLine) (rows-of-records rs rest) ∙ same-lines rs w

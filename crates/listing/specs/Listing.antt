@@ -1,15 +1,19 @@
 -- The listing of a payload, line by line. Document 01, Cases, 12: "The listing program .. prints exactly: rows 1 headers 5 / 8 GYRO SCAL 115 2 1 1",
 -- and "Refused: `refused 3 at 0` alone". Assumes nothing: these are definitions.
-use Prim.Native.Nat.{ℕ, _+_, _*_, _≤_, min}
+use Prim.Native.Nat.{ℕ, _+_, _*_, _≤_}
 use mathlib.Core.Path.{_≡_}
+use mathlib.Core.Bool.{cond}
 use mathlib.Core.List.{List, [], _∷_, map, flatten}
+use lib.Dec.{ltb}
 use lib.ListN.{length}
+use Rattle.reading.specs.Refusal.{number, noRoom}
 use Rattle.reading.specs.Record.{Record}
 use Rattle.reading.specs.Walk.{Outcome, accepted, refused, roomOf}
 use Rattle.reading.specs.Answer.{lent}
 use Rattle.rows.specs.declared.RowAt.{RowAt}
 use Rattle.rows.specs.declared.RowAt.the-variants.{Is, Outside}
 use Rattle.rows.specs.Lookup.{rowsOf}
+use Rattle.walk.specs.declared.Metadata.the-variants.{Refused}
 use Rattle.walk.specs.Metadata.{told}
 use Rattle.listing_line.specs.Line.{columns, rowLine, answerLine}
 use Rattle.listing_line.specs.Lines.{laidLines, behindLines, longestLine}
@@ -36,9 +40,10 @@ abbrev pub lineAt : RowAt → List (List ℕ)
 lineAt (Is r) = rowLine r ∷ []
 lineAt Outside = []
 
--- THE LINES of the first so many rows; a row that lent numbers have no room for has none
+-- THE LINES of the first so many rows; the refusal alone where lent numbers have no room for so many (document 01, Refusal numbers, 5: "a row, written or
+-- claimed, does not fit the room")
 abbrev pub rowLines : List ℕ → ℕ → List (List ℕ)
-rowLines s count = map rowLine (rowsOf (min count (roomOf (length s))) s)
+rowLines s count = cond (ltb (roomOf (length s)) count) (answerLine (Refused (number noRoom) 0) ∷ []) (map rowLine (rowsOf count s))
 
 -- ---- laid into a lent buffer
 

@@ -1,8 +1,6 @@
 // The listing of a payload, laid into a lent buffer: its first line, and a line for each row.
 use metadata::Metadata;
 use rows::RowAt;
-ghost use mathlib.Core.Path.{_≡_};
-ghost use Prim.Native.Nat.{min};
 ghost use mathlib.Core.Bool.{false};
 ghost use lib.ListN.{length};
 ghost use Rattle.reading.specs.Walk.{readingOf, roomOf};
@@ -28,14 +26,23 @@ pub fn list(payload: &[u8], rows: &mut [u32], out: &mut [u8], at: usize) -> usiz
     }
 }
 
-// Lays the lines of the first `count` rows; a row that the lent numbers have no room for has none.
+// Where a caller claims more rows than the lent numbers have room for.
+const NO_ROOM: u32 = 5;
+
+// Lays the lines of the first `count` rows, or the refusal where the lent numbers have no room for so many.
 pub fn put_rows(out: &mut [u8], at: usize, rows: &[u32], count: usize) -> usize
     ensures { λ r. ⌜ LaysLines (rowLines (now (rows .entry)) count) (now (out .entry)) at r (now (out .exit)) ⌝ }
 {
-    let limit = least(count, rows::room(rows.len()));
+    if rows::room(rows.len()) < count {
+        let refused = Metadata::Refused {
+            number: NO_ROOM,
+            place: 0,
+        };
+        return listing_line::put_answer(out, at, refused);
+    }
     let mut end = at;
     let mut n: usize = 0;
-    while n < limit {
+    while n < count {
         end = put_row_at(out, end, rows, n);
         n += 1;
     }
@@ -50,11 +57,4 @@ fn put_row_at(out: &mut [u8], at: usize, rows: &[u32], n: usize) -> usize
         RowAt::Is(row) => listing_line::put_line(out, at, row),
         RowAt::Outside => at,
     }
-}
-
-// The smaller of two.
-fn least(a: usize, b: usize) -> usize
-    ensures { λ r. ⌜ r ≡ min a b ⌝ }
-{
-    if a < b { a } else { b }
 }
