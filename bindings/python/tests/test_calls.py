@@ -150,7 +150,7 @@ class Values(Refusing):
         nothing = item("TYPE", "c", 1, 1, b"x") + item("ABCD", "?", 1, 2, b"ab")
         self.assertEqual(gpmf.value(nothing, 12, 0), [[], []])
 
-    def test_a_long_type_text_is_written_out_once(self):
+    def test_a_long_type_text_is_not_written_out_for_each_element(self):
         """Such a text for each element would take minutes: 65,535 times half a million steps, twice."""
         text, data = b"b" + b"]" * (16 * 32768 - 1), bytes(65535)
         payload = item("TYPE", "F", 16, 32768, text) + item("ABCD", "?", 1, 65535, data)

@@ -296,7 +296,7 @@ impl<'a> Item<'a> {
     }
 
     /// All elements of its value, each as one number, and how many there are, as [`elements_at`](crate::elements_at). Of a structure this goes through the TYPE text
-    /// once, and `element` each time.
+    /// twice in all, and `element` at each call.
     ///
     /// ```
     /// let reading = gpmf::Reading::of(b"TYPEc\x01\x00\x02bf\0\0ABCD?\x05\x00\x01\xff\x3f\xc0\0\0")?;

@@ -1,4 +1,4 @@
--- The scaled quaternion of a row of a group. Document 01, Values: "s under key CORI or IORI: four numbers w x y z per repeat ..; scaled in f64 by SCAL
+-- The scaled quaternion of a row of a group. Document 01, Values: "s under key CORI or IORI: four numbers w x y z per repeat .. Scaled in f64 by SCAL
 -- if that is one `s` number, else by 32767." Assumes nothing: these are definitions.
 use Prim.Native.Nat.{ℕ}
 use Prim.Native.Char.{code}

@@ -1,4 +1,4 @@
--- A quaternion scaled. Document 01, Values: "four numbers w x y z ..; scaled in f64 ..; x is negated in 16 bits first, so -32,768 stays -32,768."
+-- A quaternion scaled. Document 01, Values: "four numbers w x y z .. Scaled in f64 .. x is negated in 16 bits first, so -32,768 stays -32,768."
 -- Assumes nothing: these are definitions.
 use lib.IntN.{ℤ, negℤ}
 use lib.Ieee.{Float, binary64, div, ofInt}

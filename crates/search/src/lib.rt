@@ -132,7 +132,7 @@ fn by_small_blocks(s: &[u8], from: usize, end: usize) -> Found
     by_place(s, k, end)
 }
 
-// The first of 128 places where DEVC begins. Most blocks without DEVC that the first filter does not pass the other words do.
+// The first of 128 places where DEVC begins. Of the blocks without DEVC at which the first filter stops, the other words pass most.
 fn in_great_block(s: &[u8], from: usize, which: u8) -> Found
     requires { ⌜ from + 131 ≤ length (now s) ⌝ }
     ensures { λ r. ⌜ findFrom (now (s .entry)) from ≡ orElse r (findFrom (now (s .entry)) (from + 128)) ⌝ }

@@ -1,4 +1,3 @@
 pub mod Claims
 pub mod Written
 pub mod Passes
-pub mod Cases
