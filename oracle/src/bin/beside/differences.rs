@@ -462,7 +462,19 @@ fn axes_by_the_model() -> Outcome {
     )
 }
 
-const ENTRIES: [(&str, fn() -> Outcome); 30] = [
+fn files_that_are_cut() -> Outcome {
+    let files = [("00 44455643 00 01 0001 07", ((9, 10), (IS, 0))), ("44455643 00 01 0010 41424344 42 01 0001 07000000", ((8, 20), (IS, 1)))];
+    for (file, expected) in files {
+        let file = bytes(file);
+        same("the Rust's packets", &None, &probe::axes_of_file(&file, &GroupId::Gyroscope))?;
+        let answer = library::next_metadata(library::packets_new(0), &file, false, &mut [0; 8]);
+        let packet = (answer.packet.start, answer.packet.end);
+        same("the packet", &expected, &(packet, (answer.metadata.kind, answer.metadata.rows)))?;
+    }
+    Ok(())
+}
+
+const ENTRIES: [(&str, fn() -> Outcome); 31] = [
     ("1, the divisor of Q", divisor_of_q),
     ("2, size against the widths of letters", size_against_widths),
     ("3, MAGN has a group and no tag, FACE has neither", streams_without_a_tag),
@@ -493,6 +505,7 @@ const ENTRIES: [(&str, fn() -> Outcome); 30] = [
     ("26, keys that are not ASCII", keys_not_ascii),
     ("27, axes that are not X, Y and Z", other_letters_for_axes),
     ("28, axes by the model of the camera", axes_by_the_model),
+    ("29, which files are cut", files_that_are_cut),
 ];
 
 /// Every entry is as it says; each that is not is told.
