@@ -92,7 +92,7 @@ ofLastItem (last.Last place h) = item is 0 place h
 ofLastItem last.Nothing = item nothing 0 0 noKlv
 ofLastItem (last.Stopped number place) = item refused number place noKlv
 
--- the same of an item that has a value
+-- the header of an item that is asked for by its place
 abbrev pub ofHeaded : ℕ → Headed → ItemAnswer
 ofHeaded at (headed.Is h) = item is 0 at h
 ofHeaded at (headed.Refused number place) = item refused number place noKlv
