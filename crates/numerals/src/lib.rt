@@ -1,10 +1,10 @@
 // Numbers laid into a lent buffer by their digits, as crate `text` lays bytes.
 use text::FULL;
+use text::has_room;
 ghost use mathlib.Core.Path.{_≡_};
 ghost use mathlib.Core.Bool.{true};
 ghost use mathlib.Core.List.{_∷_};
 ghost use Prim.Native.Nat.{_+_, _<_, _≤_};
-ghost use lib.Dec.{leb};
 ghost use lib.IntN.{pos};
 ghost use lib.ListN.{length, getD};
 ghost use lib.Signed.{ltZ, mag};
@@ -68,19 +68,6 @@ fn put_digits(out: &mut [u8], at: usize, n: u64, base: u64, count: usize) -> usi
         return at + count;
     }
     FULL
-}
-
-// Whether a buffer of some length holds some bytes at a place.
-fn has_room(len: usize, at: usize, count: usize) -> bool
-    ensures { λ r. ⌜ r ≡ leb (at + count) len ⌝ }
-{
-    if len < at {
-        return false;
-    }
-    if len - at < count {
-        return false;
-    }
-    true
 }
 
 // The digits from the last to the first: what is left of the number has the rest.

@@ -1,18 +1,15 @@
 -- Samples of what is easy to get wrong and of the order of refusals, computed by the definitions of the reading; edits of those definitions are refused by
 -- them. Document 01's own cases stand in `theorems`. Assumes nothing.
-use Prim.Native.Nat.{ℕ, zero, suc}
+use Prim.Native.Nat.{ℕ}
 use Prim.Native.Char.{code}
-use Prim.Native.String.{String}
 use mathlib.Core.Path.{_≡_, refl}
 use mathlib.Core.Bool.{Bool, true, false}
 use mathlib.Core.List.{List, [], _∷_, _++_, map}
-use lib.ListN.{length}
 use Rattle.foundation.specs.Fuel.{run, fix}
 use Rattle.foundation.specs.Text.{key, characters}
 use Rattle.keys.specs.Keys.{tags}
 use Rattle.keys.specs.Table.{found}
-use Rattle.klv.specs.declared.KLV.{KLV}
-use Rattle.klv.specs.Item.{firstItem, laidOut}
+use Rattle.klv.specs.Item.{firstItem}
 use Rattle.klv.specs.Level.{itemsOf}
 use Rattle.klv.specs.OneText.{oneText, typeText}
 use Rattle.reading.specs.Refusal.{leftOver, pastEnd}
@@ -21,25 +18,9 @@ use Rattle.reading.specs.Record.{numbers, noPlace}
 use Rattle.reading.specs.Walk.{roleOf, itemOutcome, walk, readingOf}
 use Rattle.reading.specs.Front.{madeBefore, recordsBefore}
 use Rattle.reading.specs.Answer.{Answer, rows, refusal, answer}
+use Rattle.reading.proofs.Samples.{header, item, holding, four, five, round, row}
 
 -- ---- payloads
-
-abbrev header : String → ℕ → ℕ → ℕ → KLV
-header k letter size repeat = record { key = key k; «data_type» = letter; size = size; repeat = repeat }
-
--- an item with no padding
-abbrev item : String → ℕ → ℕ → ℕ → List ℕ → List ℕ
-item k letter size repeat payload = laidOut (header k letter size repeat) payload []
-
--- a container
-abbrev holding : String → List ℕ → List ℕ
-holding k payload = item k 0 1 (length payload) payload
-
-abbrev four : List ℕ
-four = 1 ∷ 2 ∷ 3 ∷ 4 ∷ []
-
-abbrev five : List ℕ
-five = four ++ 5 ∷ []
 
 abbrev seven : List ℕ
 seven = five ++ 6 ∷ 7 ∷ []
@@ -47,21 +28,12 @@ seven = five ++ 6 ∷ 7 ∷ []
 abbrev padding : List ℕ
 padding = 0 ∷ 0 ∷ 0 ∷ []
 
--- so many containers round some bytes
-abbrev round : ℕ → List ℕ → List ℕ
-round zero bytes = bytes
-round (suc n) bytes = holding "STRM" (round n bytes)
-
 -- a TYPE that describes one byte, and a `?` item of one byte
 abbrev describes : List ℕ
 describes = item "TYPE" (code "c") 1 1 (characters "B") ++ padding
 
 abbrev described : List ℕ
 described = item "ABCD" (code "?") 1 1 (9 ∷ []) ++ padding
-
--- a row, in the order of document 01
-abbrev row : ℕ → ℕ → ℕ → ℕ → ℕ → ℕ → ℕ → ℕ → List ℕ
-row place kind group tag k shape type depth = place ∷ kind ∷ group ∷ tag ∷ k ∷ shape ∷ type ∷ depth ∷ []
 
 -- ---- samples
 

@@ -13,4 +13,5 @@ pub mod Bounds
 pub mod Stand
 pub mod Front
 pub mod ChainFront
+pub mod Samples
 pub mod Cases

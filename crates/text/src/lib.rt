@@ -33,7 +33,7 @@ pub fn put_bytes(out: &mut [u8], at: usize, text: &[u8]) -> usize
 }
 
 // Whether a buffer of some length holds some bytes at a place.
-fn has_room(len: usize, at: usize, count: usize) -> bool
+pub fn has_room(len: usize, at: usize, count: usize) -> bool
     ensures { λ r. ⌜ r ≡ leb (at + count) len ⌝ }
 {
     if len < at {

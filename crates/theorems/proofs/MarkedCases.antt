@@ -1,6 +1,6 @@
 -- THE MARKED CASES of document 01, 1 to 10, and 11 and 12 with them, as one list: each with what is given and what it must come to, by the definitions that
 -- the promises are made by, the lent numbers too. Assumes nothing.
-use Prim.Native.Nat.{ℕ, zero, suc, _*_}
+use Prim.Native.Nat.{ℕ, _*_}
 use Prim.Native.Char.{code}
 use Prim.Native.String.{String}
 use mathlib.Core.Path.{_≡_, refl}
@@ -14,14 +14,14 @@ use Rattle.foundation.specs.Text.{key, characters}
 use Rattle.foundation.specs.BigEndian.{bytesOf}
 use Rattle.keys.specs.Keys.{tags}
 use Rattle.keys.specs.Table.{found}
-use Rattle.klv.specs.declared.KLV.{KLV}
-use Rattle.klv.specs.Item.{firstItem, laidOut}
+use Rattle.klv.specs.Item.{firstItem}
 use Rattle.klv.specs.Level.{itemsOf}
 use Rattle.klv.specs.OneText.{oneText, typeText}
 use Rattle.reading.specs.Answer.{lent}
 use Rattle.reading.specs.Last.{lastItem, lastReading}
 use Rattle.reading.specs.Record.{numbers, rowWidth, noPlace}
 use Rattle.reading.specs.Walk.{Outcome, roleOf, itemOutcome, walk, readingOf, roomOf}
+use Rattle.reading.proofs.Samples.{header, item, holding, round, four, five, row}
 use Rattle.last_item.specs.declared.LastItem.{LastItem}
 use Rattle.last_item.specs.declared.LastItem.the-variants as chain
 use Rattle.last_item.specs.LastItem as last
@@ -105,35 +105,9 @@ says (names given said) = axes (orientation.Is said)
 
 -- ---- what is given
 
-abbrev header : String → ℕ → ℕ → ℕ → KLV
-header k letter size repeat = record { key = key k; «data_type» = letter; size = size; repeat = repeat }
-
--- an item with no padding
-abbrev item : String → ℕ → ℕ → ℕ → List ℕ → List ℕ
-item k letter size repeat payload = laidOut (header k letter size repeat) payload []
-
--- a container
-abbrev holding : String → List ℕ → List ℕ
-holding k payload = item k 0 1 (length payload) payload
-
--- so many containers round some bytes
-abbrev round : ℕ → List ℕ → List ℕ
-round zero bytes = bytes
-round (suc n) bytes = holding "STRM" (round n bytes)
-
-abbrev four : List ℕ
-four = 1 ∷ 2 ∷ 3 ∷ 4 ∷ []
-
-abbrev five : List ℕ
-five = four ++ 5 ∷ []
-
 -- case 12's payload, as document 01 gives it
 abbrev twelve : List ℕ
 twelve = bytesOf 28 0x5354524d_00_01_0014_5343414c_73_02_0001_00010000_4759524f_73_06_0000
-
--- a row, in the order of document 01
-abbrev row : ℕ → ℕ → ℕ → ℕ → ℕ → ℕ → ℕ → ℕ → List ℕ
-row place kind group tag k shape type depth = place ∷ kind ∷ group ∷ tag ∷ k ∷ shape ∷ type ∷ depth ∷ []
 
 abbrev three : ℕ → ℕ → ℕ → Axes
 three a b c = record { first = a; second = b; third = c }

@@ -19,6 +19,8 @@ use Rattle.foundation.proofs.big_endian.Kinds as big-endian-kinds
 use Rattle.foundation.proofs.big_endian.Reads as big-endian-reads
 use Rattle.text.proofs.put.Kinds as put-kinds
 use Rattle.text.proofs.put.Reads as put-reads
+use Rattle.text.proofs.has_room.Kinds as has-room-kinds
+use Rattle.text.proofs.has_room.Reads as has-room-reads
 use Rattle.text.proofs.put_bytes.Kinds as put-bytes-kinds
 use Rattle.text.proofs.put_bytes.Reads as put-bytes-reads
 use Rattle.numerals.proofs.put_decimal.Kinds as put-decimal-kinds
@@ -502,6 +504,9 @@ parse-metadata κs a x y s t p q = (p .is ∙ sym (q .is), p .rows ∙ sym (q .r
 
 pub put : OneAnswer 1 put-kinds.ps put-kinds.r put-reads.Learnt (λ κs s. now (s .0))
 put κs a x y s t p q = (p .is ∙ sym (q .is), p .leaves ∙ sym (q .leaves))
+
+pub has-room : OneResult 0 has-room-kinds.ps has-room-kinds.r has-room-reads.Learnt
+has-room κs a x y s t p q = p ∙ sym q
 
 pub put-bytes : OneAnswer 2 put-bytes-kinds.ps put-bytes-kinds.r put-bytes-reads.Learnt (λ κs s. now (s .0))
 put-bytes κs a x y s t p q = (p .is ∙ sym (q .is), p .leaves ∙ sym (q .leaves))
