@@ -316,8 +316,8 @@ gpmf_row_answer gpmf_row_at(const uint32_t *rows, size_t rows_len, size_t n);
 /* Stores a row as the n-th, and tells whether there is room for it. */
 bool gpmf_put_row(uint32_t *out, size_t out_len, size_t n, gpmf_row row);
 
-/* The index of the last of the first `count` rows of a group and a tag; with GPMF_TAG_OTHER, of a group and a key. GPMF_NOTHING where there is none. Refused with 5,
- * at place 0, where so many rows have no room. */
+/* The index of the last of the first `count` rows that has a group and a tag, and under GPMF_TAG_OTHER the key too: a key that has a tag (gpmf_tag_id) is found by that
+ * alone. GPMF_NOTHING where there is none. Refused with 5, at place 0, where so many rows have no room. */
 gpmf_whole_answer gpmf_lookup(const uint32_t *rows, size_t rows_len, size_t count, uint32_t group_kind, uint32_t group_key, uint32_t tag, uint32_t key);
 
 /* The last item of the level from a place to the end; GPMF_NOTHING where there is none. Refused with 2 or 3, at the place where the search stops. */
@@ -438,7 +438,7 @@ gpmf_whole_answer gpmf_parse_utcdate(const uint8_t *text, size_t text_len);
 /* ---- what the first `count` rows of a reading lead to, for a group. Calls that are lent a payload and rows are refused with 1, at place 0, and with 5 as
  * gpmf_lookup; what is refused of an item that a row leads to has that row's place */
 
-/* The item of a group and tag (with GPMF_TAG_OTHER, key); GPMF_NOTHING where there is no such row. Refused with 2 or 12 where the row's place holds no such item. */
+/* The item of a group and a tag, as gpmf_lookup finds its row; GPMF_NOTHING where there is no such row. Refused with 2 or 12 where the row's place holds no such item. */
 gpmf_item_answer gpmf_tagged_item(const uint8_t *s, size_t s_len, const uint32_t *rows, size_t rows_len, size_t count, uint32_t group_kind, uint32_t group_key, uint32_t tag, uint32_t key);
 
 /* Whether a header's type, size and repeat are those of one number of a letter. Its key is not looked at: `s` under CORI or IORI is quaternions all the same. */

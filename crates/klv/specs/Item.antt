@@ -17,7 +17,7 @@ headerOf s = record { key = bigEndian (take 4 s); «data_type» = getD s 4 0; si
 abbrev pub dataLen : KLV → ℕ
 dataLen h = h .size * h .repeat
 
--- "The 8 of the header": a key of 4 bytes, a type byte, a size byte, a repeat of 2 (document 01, Items and the walk)
+-- "The 8 of the header" (document 01, Items and the walk)
 abbrev pub headerLength : ℕ
 headerLength = 8
 
