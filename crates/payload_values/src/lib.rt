@@ -8,8 +8,23 @@ use value::Plan;
 use value::Read;
 use value::Shaped;
 ghost use mathlib.Core.Path.{_≡_};
-ghost use Rattle.value.specs.Value.{valueOf};
+ghost use Rattle.value.specs.Value.{isQuaternions, valueOf};
 ghost use Rattle.value.specs.Answer.{elementIn, shapeIn, columnsIn, columnsByShape};
+
+// Whether the value under a header is quaternions.
+pub fn is_quaternions(klv: KLV) -> bool
+    ensures { λ r. ⌜ r ≡ isQuaternions klv ⌝ }
+{
+    if klv.data_type == b's' {
+        if klv.key == keys::names::CORI {
+            return true;
+        }
+        if klv.key == keys::names::IORI {
+            return true;
+        }
+    }
+    false
+}
 
 // An element of the value of a header, a payload and the TYPE text in force.
 pub fn element_of(

@@ -8,7 +8,7 @@ use value::Plan;
 ghost use mathlib.Core.Path.{_≡_};
 ghost use Prim.Native.Nat.{_<_, _≤_};
 ghost use Rattle.elements.specs.Types.{widthOf};
-ghost use Rattle.value.specs.Value.{kindOf, isQuaternions, quaternions, numbers, text};
+ghost use Rattle.value.specs.Value.{kindOf, quaternions, numbers, text};
 ghost use Rattle.payload_values.specs.Small.{SmallGrid, Planned, LetterPlanned};
 
 fn kind_of(repeat: u16, n: usize) -> Kind
@@ -27,20 +27,6 @@ fn kind_of(repeat: u16, n: usize) -> Kind
         return Kind::TimedVector;
     }
     Kind::Nested
-}
-
-fn is_quaternions(klv: KLV) -> bool
-    ensures { λ r. ⌜ r ≡ isQuaternions klv ⌝ }
-{
-    if klv.data_type == b's' {
-        if klv.key == keys::names::CORI {
-            return true;
-        }
-        if klv.key == keys::names::IORI {
-            return true;
-        }
-    }
-    false
 }
 
 fn quaternions_of(klv: KLV) -> Grid
@@ -104,7 +90,7 @@ fn letter_plan(letter: u8) -> Plan
 pub(crate) fn plan_of(klv: KLV, payload: &[u8]) -> Plan
     ensures { λ r. ⌜ Planned klv (now (payload .entry)) r ⌝ }
 {
-    if is_quaternions(klv) {
+    if crate::is_quaternions(klv) {
         return Plan::Even(quaternions_of(klv));
     }
     let width = elements::width(klv.data_type);

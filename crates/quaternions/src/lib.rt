@@ -1,17 +1,14 @@
 // Quaternions of CORI and IORI, scaled.
 use elements::Element;
-use keys::names::CORI;
-use keys::names::IORI;
 use keys::names::SCAL;
 use keys::tags::DATA;
 use keys::tags::SCALE;
-use klv::KLV;
+use payload_values::is_quaternions;
 use scaling::Quaternion;
 use tagged::Tagged;
 use value::Read;
 ghost use mathlib.Core.Path.{_≡_};
 ghost use Rattle.tagged.specs.Number.{signedNumber, Sixteen};
-ghost use Rattle.value.specs.Value.{isQuaternions};
 ghost use Rattle.quaternions.specs.Scaled.{numberAt, scaleOf, quaternionAt, quaternionOf};
 ghost use Rattle.quaternions.specs.Ready.{Halves};
 
@@ -56,22 +53,6 @@ pub enum ScaledRow {
 enum Scale {
     By(f64),
     Refused { number: u32, place: usize },
-}
-
-// Whether the value under a header is quaternions.
-fn is_quaternions(klv: KLV) -> bool
-    ensures { λ r. ⌜ r ≡ isQuaternions klv ⌝ }
-{
-    if klv.data_type != b's' {
-        return false;
-    }
-    if klv.key == CORI {
-        return true;
-    }
-    if klv.key == IORI {
-        return true;
-    }
-    false
 }
 
 // The scale of a group.

@@ -199,6 +199,8 @@ use Rattle.structures.proofs.element.Kinds as structure-element-kinds
 use Rattle.structures.proofs.element.Reads as structure-element-reads
 use Rattle.structures.proofs.shape.Kinds as structure-shape-kinds
 use Rattle.structures.proofs.shape.Reads as structure-shape-reads
+use Rattle.payload_values.proofs.is_quaternions.Kinds as is-quaternions-kinds
+use Rattle.payload_values.proofs.is_quaternions.Reads as is-quaternions-reads
 use Rattle.payload_values.proofs.element_of.Kinds as element-of-kinds
 use Rattle.payload_values.proofs.element_of.Reads as element-of-reads
 use Rattle.payload_values.proofs.shape_of.Kinds as shape-of-kinds
@@ -417,6 +419,9 @@ structure-element κs a x y s t p q = p ∙ sym q
 
 pub structure-shape : OneResult 2 structure-shape-kinds.ps structure-shape-kinds.r structure-shape-reads.Learnt
 structure-shape κs a x y s t p q = p ∙ sym q
+
+pub is-quaternions : OneResult 0 is-quaternions-kinds.ps is-quaternions-kinds.r is-quaternions-reads.Learnt
+is-quaternions κs a x y s t p q = p ∙ sym q
 
 pub element-of : OneResult 2 element-of-kinds.ps element-of-kinds.r element-of-reads.Learnt
 element-of κs a x y s t p q = p ∙ sym q

@@ -1,8 +1,8 @@
 -- `is_quaternions` meets its contract. Assumes nothing.
 use borrow.Author.Tests.{eq-eqb, ne-eqb}
 use Rattle.value.specs.Value.{isQuaternions}
-use Rattle.payload_values.proofs.plan.is_quaternions.Statement.{statement}
-use Rattle.payload_values.proofs.plan.is_quaternions.Tie as tie
+use Rattle.payload_values.proofs.is_quaternions.Statement.{statement}
+use Rattle.payload_values.proofs.is_quaternions.Tie as tie
 
 returns : tie.Need-returns
 unfolding isQuaternions
