@@ -8,9 +8,11 @@ import subprocess
 import sys
 import tempfile
 import unittest
+import unittest.mock
 
 import gpmf
-from samples import ROOT, SAMPLES, seconds, stored
+import mixer
+from samples import ROOT, SAMPLES, item, raw, seconds, stored
 
 MODULE = pathlib.Path(gpmf.__file__).resolve()
 LIBRARY = gpmf._library_file()
@@ -91,6 +93,26 @@ class Usage(unittest.TestCase):
             with self.subTest(name):
                 said = run(MODULE.parent, LIBRARY, "mixer.py", str(SAMPLES / f"{name}.raw"))
                 self.assertEqual((said.stdout, said.stderr, said.returncode), (stored(f"{name}.table"), "", 0))
+
+    def test_the_example_asks_for_each_value_once(self):
+        """MWET, AALP and SCAL: an element by itself would go through a whole TYPE text, or through all texts."""
+        for packet in gpmf.packets(raw("take")):
+            with unittest.mock.patch.object(gpmf, "_call", wraps=gpmf._call) as call:
+                self.assertEqual(mixer.line_of(packet), stored("take.table").splitlines()[packet.number])
+            names = [each.args[0] for each in call.call_args_list]
+            self.assertEqual((names.count("gpmf_elements_at"), names.count("gpmf_element")), (3, 0))
+
+    def test_the_example_has_a_stroke_for_a_column_that_is_not_in_all_rows(self):
+        def cells(wet, gain, scale):
+            streams = [item("MWET", "c", 3, 2, wet), item("SCAL", "c", 2, 2, scale) + item("AALP", "c", 2, 2, gain)]
+            (packet,) = gpmf.packets(b"DEVC\0\1\0\0" + b"".join(item("STRM", "\0", 1, len(each), each) for each in streams))
+            return mixer.line_of(packet).split()[1:6]
+
+        self.assertEqual(cells(b"abcabc", b"\2\4\4\x08", b"\1\2ab"), ["2/2", "2/2", "99.0", "3.0", "3.0"])
+        self.assertEqual(cells(b"abcab\0", b"\2\4\4\0", b"\1\2ab"), ["2/2", "2/2", "-", "3.0", "-"])
+        self.assertEqual(cells(b"ab\0abc", b"\2\0\4\4", b"\1\2ab"), ["-"] * 5)
+        self.assertEqual(cells(b"abcabc", b"\2\4\4\x08", b"\1\0\0\0"), ["2/2", "2/2", "99.0", "3.0", "-"])
+        self.assertEqual(cells(b"abcabc", b"\2\4\4\x08", b"\0\0\1\2"), ["2/2", "2/2", "99.0", "-", "-"])
 
     def test_the_example_says_how_it_is_used(self):
         said = run(MODULE.parent, LIBRARY, "mixer.py")
