@@ -402,12 +402,19 @@ _let_go = ctypes.pythonapi.PyBuffer_Release
 _let_go.argtypes, _let_go.restype = [c_void_p], None
 
 
-def _bytes(memory: Bytes, written: bool = False) -> _Lent:
-    """Bytes, where they lie."""
+def _flat(memory: Bytes) -> memoryview:
+    """Bytes one by one, whatever the shape that they are lent in: a slice of a view of two dimensions is one of its rows."""
     view = memoryview(memory)
     if view.itemsize != 1:
         raise TypeError(f"bytes are wanted, not numbers of {view.itemsize} bytes")
-    return _Lent(view, written)
+    if not view.c_contiguous:
+        raise ValueError("memory without gaps is wanted")
+    return view.cast("B")
+
+
+def _bytes(memory: Bytes, written: bool = False) -> _Lent:
+    """Bytes, where they lie."""
+    return _Lent(_flat(memory), written)
 
 
 def _numbers(memory: Numbers, written: bool = False) -> _Lent:
@@ -803,7 +810,7 @@ def text_at(payload: Bytes, item: ItemOrPlace, row: int, type_place: Optional[in
 
 def _part(payload: Bytes, answer: gpmf_part_answer) -> memoryview:
     _is(answer)
-    return memoryview(payload)[answer.start : answer.start + answer.length]
+    return _flat(payload)[answer.start : answer.start + answer.length]
 
 
 def elements(payload: Bytes, item: ItemOrPlace, type_place: Optional[int] = None) -> List[List[Number]]:
@@ -853,8 +860,9 @@ def _kept(payload: Bytes, at: int, has: Shape) -> Iterator[bytes]:
     item = parse_header(payload, at)
     size = data_len(item) if has.kind == Kind.TEXT else item.size
     length = latin1_len if has.kind == Kind.TEXT else utf8_len
+    every = _flat(payload)[at + 8 : at + 8 + has.rows * size]
     for row in range(has.rows):
-        text = memoryview(payload)[at + 8 + row * size : at + 8 + (row + 1) * size]
+        text = every[row * size : (row + 1) * size]
         yield bytes(text[: length(text)])
 
 
@@ -914,7 +922,7 @@ class Packet:
             return self.reading
         if self._payload is None or self.refusal is None:
             return rows(b"", self.forced, self.room)
-        return rows(memoryview(self._payload)[: self.refusal.place], self.forced, self.room)
+        return rows(_flat(self._payload)[: self.refusal.place], self.forced, self.room)
 
 
 class More(NamedTuple):
@@ -953,7 +961,7 @@ def _packets(file: Bytes, forced: bool, room: int, lent: array.array[int]) -> It
     number = 1
     cut = next_metadata(file, 0, forced, lent)
     while cut is not None:
-        yield _packet(number, 0, cut, memoryview(file)[cut.start : cut.end], forced, room, lent)
+        yield _packet(number, 0, cut, _flat(file)[cut.start : cut.end], forced, room, lent)
         number += 1
         cut = next_metadata(file, cut.rest, forced, lent)
 
