@@ -658,7 +658,7 @@ class Reading(Sequence[Row]):
             return None if index is None else self[index]
         tag, key = tag_id(tag_or_key), key_number(tag_or_key)
         index = lookup(self.numbers, len(self), *group_numbers(group), tag, key)
-        while index is not None and self[index].key != tag_or_key:
+        while index is not None and key_number(self[index].key) != key:  # as numbers, for a key may be asked for in hex
             index = lookup(self.numbers, index, *group_numbers(group), tag, key)
         return None if index is None else self[index]
 

@@ -126,6 +126,13 @@ class Values(unittest.TestCase):
         for group, key in (None, "MWET"), ("MWET", "GPSP"), ("FOUR", "MWET"), ("ACCL", "UNIT"):
             self.assertIsNone(reading.lookup(group, key))
 
+    def test_a_key_may_be_asked_for_in_hex(self):
+        reading = self.readings[0]
+        for row in reading:
+            self.assertEqual(reading.lookup(row.group, f"x{gpmf.key_number(row.key):08x}"), reading.lookup(row.group, row.key))
+        self.assertEqual(reading.lookup(f"x{gpmf.key_number('MWET'):08x}", "STNM").group, "MWET")
+        self.assertIsNone(reading.lookup("MWET", f"x{gpmf.key_number('DVNM'):08x}"))  # which has the tag of STNM
+
     def test_lookup_with_one_group_for_all(self):
         reading = gpmf.rows(self.packets[0].payload, forced=True)
         self.assertEqual({row.group for row in reading}, {None})
