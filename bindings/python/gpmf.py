@@ -995,7 +995,12 @@ class Take(Iterator[Packet]):
         self._at, self._number, self._ended = 0, 0, False
 
     def close(self) -> None:
-        """Closes a file that was opened here, and ends the take."""
+        """Closes a file that was opened here, and ends the take: no packet comes after that."""
+        self._ready.clear()
+        self._end()
+
+    def _end(self) -> None:
+        """Closes a file that was opened here, and reads no more. Packets that are ready still come."""
         self._ended = True
         if self._opened is not None:
             self._opened.close()
@@ -1025,7 +1030,7 @@ class Take(Iterator[Packet]):
             self._at = 0
         elif cut is None:
             self._end_with_the_file()
-            self.close()
+            self._end()
         else:
             self._at = cut.rest
             self._take_in(cut)

@@ -300,6 +300,15 @@ class Files(unittest.TestCase):
         self.assertTrue(take._opened.closed)
         self.assertEqual(list(take), [])
 
+    def test_no_packet_comes_after_close(self):
+        over = DEVC + bytes(2 * gpmf.MOST_BYTES)
+        for file in over + DEVC + item("ABCD", "B", 1, 3, b"abc"), b"DEVC\0" + over:  # of each, both packets are known at once
+            self.assertEqual([packet.number for packet in gpmf.open_take(io.BytesIO(file))], [1, 2])
+            take = gpmf.open_take(io.BytesIO(file))
+            self.assertEqual((next(take).number, len(take._ready)), (1, 1))
+            take.close()
+            self.assertEqual(list(take), [])
+
     def test_packets_outlive_the_window(self):
         packets = list(gpmf.open_take(SAMPLES / "take.raw", piece=10))
         self.assertEqual("".join(map(packet_text, packets)), "".join(map(packet_text, gpmf.packets(raw("take")))))
