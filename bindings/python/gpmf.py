@@ -1026,8 +1026,9 @@ class Take(Iterator[Packet]):
         window = self._window
         cut = next_metadata_in(window.held, self._at, window.more, self._forced, self._rows)
         if isinstance(cut, More):
-            window.go_on(self._file, cut.place)
+            window.let_go(cut.place)  # together with the cursor, and before what may raise: so the window can always be gone on with
             self._at = 0
+            window.read(self._file)
         elif cut is None:
             self._end_with_the_file()
             self._end()
@@ -1076,16 +1077,19 @@ class _Window:
     def __init__(self, piece: int) -> None:
         self.piece, self.start, self.held, self.more = piece, 0, bytearray(), True
 
-    def go_on(self, file: Any, place: int) -> None:
-        """Lets go of the bytes before a place, and reads a piece more."""
+    def let_go(self, place: int) -> None:
+        """Lets go of the bytes before a place."""
+        del self.held[:place]
+        self.start += place
+
+    def read(self, file: Any) -> None:
+        """Reads a piece more, or raises and leaves what is held."""
         piece = file.read(self.piece)
         if piece is None:
             raise BlockingIOError("the file has no bytes yet, and does not wait for them")
         view = memoryview(piece)
         if view.nbytes > self.piece:
             raise ValueError("the file's read gave more bytes than were asked for")
-        del self.held[:place]
-        self.start += place
         self.held += view
         self.more = view.nbytes > 0
 

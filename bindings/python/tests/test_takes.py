@@ -2,6 +2,7 @@
 import array
 import datetime
 import io
+import itertools
 import os
 import random
 import struct
@@ -243,8 +244,8 @@ class PieceByPiece(unittest.TestCase):
         for piece in 4096, 65536:
             file = Endless(30_000_000)
             take = gpmf.open_take(file, piece=piece)
-            go_on, most = take._window.go_on, []
-            take._window.go_on = lambda *words: (go_on(*words), most.append(len(take._window.held)))
+            read, most = take._window.read, []
+            take._window.read = lambda *words: (read(*words), most.append(len(take._window.held)))
             self.assertEqual([packet.length for packet in take], [30_000_000 - 8])
             self.assertLessEqual(max(most), 8 + gpmf.MOST_BYTES + 3 + piece)
             self.assertGreater(max(most), gpmf.MOST_BYTES)
@@ -268,6 +269,24 @@ class Short(io.BytesIO):
 
     def read(self, count=-1):
         return super().read(min(count, 5))
+
+
+class Failing(io.BytesIO):
+    """A file that gives no piece every other time: it has none yet, or raises, or gives what is no piece."""
+
+    def __init__(self, file):
+        super().__init__(file)
+        self.wrong = itertools.cycle((None, memoryview(bytes(8))[::2], "text", [1], OSError("no piece")))
+        self.calls = 0
+
+    def read(self, count=-1):
+        self.calls += 1
+        if self.calls % 2:
+            return super().read(count)
+        wrong = next(self.wrong)
+        if isinstance(wrong, OSError):
+            raise wrong
+        return wrong
 
 
 class Files(unittest.TestCase):
@@ -328,6 +347,19 @@ class Files(unittest.TestCase):
         greedy = Endless(100)
         greedy.read = lambda count: bytes(count + 1)
         self.assertRaises(ValueError, list, gpmf.open_take(greedy))
+
+    def test_no_packet_is_lost_where_a_read_fails(self):
+        for name in NAMES:
+            for piece in 1, 7, 100, 1228, 4096:
+                take, found, failed = gpmf.open_take(Failing(raw(name)), piece=piece), [], 0
+                while not take._ended:
+                    try:
+                        for packet in take:
+                            found.append(packet)
+                    except (OSError, TypeError, ValueError):
+                        failed += 1
+                self.assertEqual(take_text(found), stored(f"{name}.take"))
+                self.assertEqual(failed, take._file.calls // 2)
 
     def test_an_open_file_is_read_from_where_it_stands(self):
         with tempfile.TemporaryFile() as file:
