@@ -396,9 +396,9 @@ class _PyBuffer(ctypes.Structure):
     ]
 
 
-_hold = ctypes.pythonapi.PyObject_GetBuffer
+_hold = ctypes.pythonapi["PyObject_GetBuffer"]  # by its name in brackets it is one of this module's own, whose types no other module sees
 _hold.argtypes = [ctypes.py_object, c_void_p, ctypes.c_int]
-_let_go = ctypes.pythonapi.PyBuffer_Release
+_let_go = ctypes.pythonapi["PyBuffer_Release"]
 _let_go.argtypes, _let_go.restype = [c_void_p], None
 
 

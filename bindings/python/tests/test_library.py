@@ -1,4 +1,5 @@
 """Where the module finds the library, and what it says where it does not; its usage, as a doctest; the example."""
+import ctypes
 import doctest
 import os
 import pathlib
@@ -70,6 +71,14 @@ class Search(unittest.TestCase):
         other.write_bytes(b"no library")
         said = run(self.folder, other, *self.LOADED)
         self.assertRegex(said.stderr.splitlines()[-1], r"^ImportError: .*libgpmf\.so is not the library of this module: run \./gpmf lib")
+
+
+class Interpreter(unittest.TestCase):
+    def test_its_functions_are_as_they_were_for_other_modules(self):
+        names = "PyObject_GetBuffer", "PyBuffer_Release"
+        asked = f"[(f.argtypes, f.restype) for f in map(lambda name: getattr(ctypes.pythonapi, name), {names})]"
+        said = run(MODULE.parent, LIBRARY, "-c", f"import ctypes; before = {asked}; import gpmf; gpmf.rows(b''); print({asked} == before, before)")
+        self.assertEqual((said.stdout, said.stderr), (f"True {[(None, ctypes.c_int)] * 2}\n", ""))
 
 
 class Usage(unittest.TestCase):
