@@ -1399,8 +1399,11 @@ class Taken(NamedTuple):
 def listing(payload: Bytes, room: int = MOST_ROWS) -> str:
     """The listing of a payload, as ./gpmf list prints it."""
     numbers = _lent_rows(room)
-    out = bytearray(56 * (room + 1))  # at most 56 bytes a row, and 56 more
-    return out[: put_listing(payload, numbers, out, 0)].decode("ascii")
+    out = bytearray(56 * (len(numbers) // ROW_WIDTH + 1))  # at most 56 bytes a row, and 56 more
+    end = put_listing(payload, numbers, out, 0)
+    if end == FULL:
+        raise OverflowError("a listing that does not fit its buffer")
+    return out[:end].decode("ascii")
 
 
 def _out(out: Union[bytearray, memoryview], at: int) -> Tuple[_Lent, int]:

@@ -6,6 +6,7 @@ import struct
 import time
 import tracemalloc
 import unittest
+import unittest.mock
 from fractions import Fraction
 
 import gpmf
@@ -342,6 +343,17 @@ class Printing(Refusing):
         self.assertEqual((end, out[:10], out[10:end].decode()), (10 + len(text), bytes(10), text))
         self.assertEqual((gpmf.put_rows(out, 0, lent, 1), out[:22]), (22, b"8 GYRO SCAL 115 2 1 1\n"))
         self.assertEqual((gpmf.put_rows(out, 0, lent, 2), out[:15]), (15, b"refused 5 at 0\n"))
+
+    def test_a_room_is_any_whole_number(self):
+        class Sixty:
+            def __index__(self):
+                return 60
+
+        self.assertEqual(gpmf.listing(raw("packet"), Sixty()), gpmf.listing(raw("packet")))
+
+    def test_a_listing_is_whole_or_raises(self):
+        with unittest.mock.patch.object(gpmf, "put_listing", return_value=gpmf.FULL):
+            self.assertRaises(OverflowError, gpmf.listing, CASE_12)
 
     def test_packets(self):
         out, lent = bytearray(200), array.array("I", bytes(32))
