@@ -643,7 +643,7 @@ class Reading(Sequence[Row]):
             return [self[each] for each in range(*index.indices(len(self)))]
         numbers = row_at(self.numbers, range(len(self))[index])
         if numbers is None:
-            raise IndexError("the numbers have no room for so many rows")
+            raise Refusal(5, 0)  # as the library says of rows that are claimed without room; at an IndexError a loop would end as if there were no more
         return Row.of(numbers)
 
     def __repr__(self) -> str:

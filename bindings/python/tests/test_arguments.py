@@ -176,7 +176,17 @@ class Arguments(unittest.TestCase):
         row = gpmf.Reading(PAYLOAD, lent, 8, 0)[7]
         self.assertEqual((row.place, row.group, row.key, row.type, row.size, row.repeat), (2**32 - 1, "xffffffff", "xffffffff", "\xff", 255, 65535))
         self.assertRaises(gpmf.Refusal, gpmf.value, PAYLOAD, row)
-        self.assertRaises(IndexError, gpmf.Reading(PAYLOAD, lent, 9, 0).__getitem__, 8)
+
+    def test_rows_without_room_are_refused_as_the_library_does(self):
+        lent = numbers()
+        short = gpmf.Reading(PAYLOAD, lent, 64, 0)
+        self.assertEqual(len(list(short)), 64)
+        del lent[-1:]
+        for call in lambda: list(short), lambda: short[63], lambda: short[:], lambda: short.lookup("MWET", "MWET"), lambda: list(gpmf.Reading(b"", lent, 64, 0)):
+            with self.assertRaises(gpmf.Refusal) as caught:
+                call()
+            self.assertEqual(caught.exception.args, (5, 0))
+        self.assertRaises(IndexError, short.__getitem__, 64)
 
     def test_a_value_is_asked_of_any_bytes(self):
         for at in range(0, 400):
