@@ -1024,11 +1024,13 @@ class Take(Iterator[Packet]):
     def _go_on(self) -> None:
         """The next packet, or the next piece, or the end."""
         window = self._window
+        if not window.news:
+            window.read(self._file)
+            return
         cut = next_metadata_in(window.held, self._at, window.more, self._forced, self._rows)
         if isinstance(cut, More):
-            window.let_go(cut.place)  # together with the cursor, and before what may raise: so the window can always be gone on with
+            window.let_go(cut.place)  # together with the cursor, and before a read that may raise: so the window can always be gone on with
             self._at = 0
-            window.read(self._file)
         elif cut is None:
             self._end_with_the_file()
             self._end()
@@ -1072,15 +1074,16 @@ def _piece(piece: int) -> int:
 
 
 class _Window:
-    """The part of a file that is held: where it begins in the file, its bytes, and whether more may follow."""
+    """The part of a file that is held: where it begins in the file, its bytes, whether more may follow, and whether a packet may be told that was not yet."""
 
     def __init__(self, piece: int) -> None:
-        self.piece, self.start, self.held, self.more = piece, 0, bytearray(), True
+        self.piece, self.start, self.held, self.more, self.news = piece, 0, bytearray(), True, False
 
     def let_go(self, place: int) -> None:
-        """Lets go of the bytes before a place."""
+        """Lets go of the bytes before a place, where those behind it tell no packet before more is read."""
         del self.held[:place]
         self.start += place
+        self.news = False
 
     def read(self, file: Any) -> None:
         """Reads a piece more, or raises and leaves what is held."""
@@ -1090,8 +1093,17 @@ class _Window:
         view = memoryview(piece)
         if view.nbytes > self.piece:
             raise ValueError("the file's read gave more bytes than were asked for")
+        searched = max(len(self.held) - 3, 0)  # what stands before was searched; a DEVC that is cut off may begin in the last three bytes
         self.held += view
         self.more = view.nbytes > 0
+        self.news = self._is_news(searched)
+
+    def _is_news(self, searched: int) -> bool:
+        """Whether a packet may be told now. While its end is sought, only the bytes behind those that were searched are: else small pieces would have a packet searched
+        anew for each of them."""
+        if not self.more or len(self.held) > MOST_BYTES or not self.held.startswith(b"DEVC"):
+            return True
+        return find_devc(self.held, searched) is not None
 
 
 def find_devc(file: Bytes, start: int = 0) -> Optional[int]:

@@ -8,6 +8,7 @@ import random
 import struct
 import tempfile
 import unittest
+import unittest.mock
 
 import gpmf
 from samples import NAMES, SAMPLES, item, listed, packet_text, raw, refused, seconds, stored, take_model, take_text
@@ -249,6 +250,28 @@ class PieceByPiece(unittest.TestCase):
             self.assertEqual([packet.length for packet in take], [30_000_000 - 8])
             self.assertLessEqual(max(most), 8 + gpmf.MOST_BYTES + 3 + piece)
             self.assertGreater(max(most), gpmf.MOST_BYTES)
+
+
+    def test_a_packet_is_not_searched_anew_for_each_piece(self):
+        file = DEVC + bytes(gpmf.MOST_BYTES - 5) + DEVC + item("ABCD", "B", 1, 3, b"abc") + bytes(200_000)
+        searched = []
+
+        def counted(call):
+            return lambda window, at, *words: (searched.append(len(window) - at), call(window, at, *words))[1]
+
+        for piece in 16, 1000, 65536:
+            searched.clear()
+            with unittest.mock.patch.multiple(gpmf, next_metadata_in=counted(gpmf.next_metadata_in), find_devc=counted(gpmf.find_devc)):
+                self.assertEqual([packet.length for packet in gpmf.open_take(io.BytesIO(file), piece=piece)], [gpmf.MOST_BYTES - 5, 200_012])
+            self.assertLess(sum(searched), 4 * len(file) + 3 * len(file) // piece)
+
+    def test_a_packet_is_told_as_soon_as_its_end_is_read(self):
+        good = DEVC + item("ABCD", "B", 1, 3, b"abc")
+        for piece in PIECES:
+            file = io.BytesIO(b"..." + good * 2 + b"DEVC")
+            take = gpmf.open_take(file, piece=piece)
+            for number in 1, 2:
+                self.assertEqual((next(take).number, file.tell()), (number, min(-(-(3 + number * len(good) + 4) // piece) * piece, len(file.getvalue()))))
 
 
 class Endless:
