@@ -729,7 +729,7 @@ def put_row(out: Numbers, n: int, row: RowNumbers) -> bool:
 
 
 def lookup(rows: Numbers, count: int, group_kind: int, group_key: int, tag: int, key: int) -> Optional[int]:
-    """The index of the last of the first `count` rows of a group and a tag; with tag 0, of a group and a key. Refused with 5 where so many rows have no room."""
+    """The index of the last of the first `count` rows that has the group and the tag, and under tag 0 the key too. Refused with 5 where so many rows have no room."""
     return _whole_or_none(_call("gpmf_lookup", _numbers(rows), _size(count), *(_unsigned(number, 32) for number in (group_kind, group_key, tag, key))))
 
 
@@ -1307,8 +1307,8 @@ def _of_group(payload: Bytes, rows: Numbers, count: int, group_kind: int, group_
 
 
 def tagged_item(payload: Bytes, rows: Numbers, count: int, group_kind: int, group_key: int, tag: int, key: int) -> Optional[Item]:
-    """The item of a group and a tag; with tag 0, of a group and a key. None where there is no such row. Refused with 1, at place 0, with 5 as lookup, or with 2 or 12,
-    at the row's place, where that holds no such item."""
+    """The item whose row is the last that has the group and the tag, and under tag 0 the key too. None where there is no such row. Refused with 1, at place 0, with 5 as
+    lookup, or with 2 or 12, at the row's place, where that holds no such item."""
     group = _of_group(payload, rows, count, group_kind, group_key)
     return _item_or_none(_call("gpmf_tagged_item", *group, _unsigned(tag, 32), _unsigned(key, 32)))
 
