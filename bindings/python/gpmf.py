@@ -1,4 +1,4 @@
-"""A proved reader of GPMF, the metadata of action cameras, for CPython 3.9 and later with its global lock, on x86-64.
+"""A proved reader of GPMF, the metadata of action cameras, for CPython 3.9 and later on x86-64.
 
 Which readings of a damaged take had a wet microphone:
 
@@ -20,8 +20,8 @@ A call that is refused raises Refusal, where the library has nothing it is None,
 OverflowError. Bytes are taken where they lie, in bytes, a bytearray or a memoryview. A key is a text: its four letters, or, where one of them cannot be
 seen, x and eight hex digits. A group is a key, or None for the caller's own. A place is counted in bytes from the start of the payload or file.
 
-The module is for CPython as it usually comes, with its global lock: the library is called under that lock, so that no other thread changes memory while it is lent. A
-build without the lock does not give that, and nor do other interpreters."""
+The module is for CPython as it usually comes, with its global lock: the library, as a PyDLL, is called under that lock, so that no other thread changes memory while it
+is lent. A build without the lock does not give that, and nor do other interpreters."""
 from __future__ import annotations
 
 import array
@@ -294,7 +294,7 @@ def _library_file() -> pathlib.Path:
 
 
 def _library() -> ctypes.PyDLL:
-    """The library with its declarations. As a PyDLL it is called under the interpreter's lock: no other thread changes what is lent to a call."""
+    """The library with its declarations."""
     file = _library_file()
     try:
         library = ctypes.PyDLL(str(file))
@@ -804,7 +804,8 @@ def bytes_at(payload: Bytes, item: ItemOrPlace, type_place: Optional[int] = None
 
 
 def text_at(payload: Bytes, item: ItemOrPlace, row: int, type_place: Optional[int] = None) -> memoryview:
-    """The text of a row of an item's value, as a part of the payload, without the zeros behind it. Refused as an element is; with 13 too where the value is no text."""
+    """The text of a row of an item's value, as a part of the payload: of one text without the zeros behind it, of several up to the first zero. Refused as an element is;
+    with 13 too where the value is no text."""
     return _part(payload, _call("gpmf_text_at", _bytes(payload), *_place_and_type(item, type_place), _size(row)))
 
 
@@ -867,8 +868,8 @@ def _kept(payload: Bytes, at: int, has: Shape) -> Iterator[bytes]:
 
 
 def value(payload: Bytes, item: ItemOrPlace, type_place: Optional[int] = None) -> Value:
-    """The whole value of an item, refused as a shape is: a number, a list of them, or a list for each row; a text or a list of these; a date as a datetime in UTC;
-    the four numbers of an identifier; None for a type that is not read."""
+    """The whole value of an item, refused as a shape is: a number, a list of them, or a list for each row; a text or a list of these; a date as a datetime in UTC, which
+    for a date or a time that is impossible is the start of 1970; the four numbers of an identifier; None for a type that is not read."""
     at, type_at = _place_and_type(item, type_place)
     has = shape(payload, at, type_at)
     if has.kind == Kind.UNKNOWN:
@@ -1350,7 +1351,7 @@ def get_avg_sample_duration(
     counts: Sequence[int], has_stamp: Sequence[bool], stamps: Sequence[int], durations: Sequence[float], missing: Sequence[bool]
 ) -> Optional[float]:
     """Milliseconds for a reading, on average over as many packets as the shortest list has: readings, whether stamped, stamps in microseconds, durations in
-    milliseconds, whether time is missing in front. None where there are no readings. Refused with 11."""
+    milliseconds, whether time is missing since the last stamped packet. None where there are no readings. Refused with 11."""
     lists = _copied("I", counts), _copied("B", map(_flag, has_stamp)), _copied("Q", stamps), _copied("d", durations), _copied("B", map(_flag, missing))
     answer = _call("gpmf_get_avg_sample_duration", *lists)
     return float(answer.value) if _is(answer) else None
@@ -1398,7 +1399,8 @@ def mtrx_to_orientation(mtrx: Sequence[float]) -> str:
 
 
 # ---- printing: text is laid into a buffer from a place on, and the answer is the place behind it; what does not fit is not laid and the answer is FULL, and from
-# FULL on nothing is laid either, so that calls can follow each other unlooked-at
+# FULL on nothing is laid either, so that calls can follow one another without a test between them. A call that lays several parts, as lines, leaves those that were
+# laid before the first that does not fit
 
 
 class Taken(NamedTuple):
@@ -1451,7 +1453,7 @@ def put_packet(payload: Bytes, number: int, place: int, whole: bool, rows: Numbe
 
 
 def put_long_packet(number: int, place: int, length: int, whole: bool, out: Union[bytearray, memoryview], at: int) -> int:
-    """A packet of more bytes than are held: its line, and its refusal with 1."""
+    """A packet of more bytes than are held: its line, its refusal with 1, and a front of no rows; with whole, nothing."""
     return int(_call("gpmf_put_long_packet", _size(number), _size(place), _size(length), _flag(whole), *_out(out, at)))
 
 
