@@ -358,14 +358,20 @@ def _letter(letter: str) -> int:
     return ord(letter)
 
 
+def _unfit(view: memoryview, error: Exception) -> Exception:
+    """The error for memory that no call takes. The view is let go of: the error's frames have it, and the memory could not be resized for as long as the error lives."""
+    view.release()
+    return error
+
+
 class _Lent:
     """Memory that is lent to a call: so many numbers of one size, which the call may write where it is said to."""
 
     def __init__(self, view: memoryview, written: bool) -> None:
         if not view.c_contiguous:
-            raise ValueError("memory without gaps is wanted")
+            raise _unfit(view, ValueError("memory without gaps is wanted"))
         if written and view.readonly:
-            raise TypeError(f"memory that can be written is wanted, not {type(view.obj).__name__}")
+            raise _unfit(view, TypeError(f"memory that can be written is wanted, not {type(view.obj).__name__}"))
         self.view, self.written = view, written
         self._held = _PyBuffer()
 
@@ -406,9 +412,9 @@ def _flat(memory: Bytes) -> memoryview:
     """Bytes one by one, whatever the shape that they are lent in: a slice of a view of two dimensions is one of its rows."""
     view = memoryview(memory)
     if view.itemsize != 1:
-        raise TypeError(f"bytes are wanted, not numbers of {view.itemsize} bytes")
+        raise _unfit(view, TypeError(f"bytes are wanted, not numbers of {view.itemsize} bytes"))
     if not view.c_contiguous:
-        raise ValueError("memory without gaps is wanted")
+        raise _unfit(view, ValueError("memory without gaps is wanted"))
     return view.cast("B")
 
 
@@ -421,7 +427,7 @@ def _numbers(memory: Numbers, written: bool = False) -> _Lent:
     """Numbers of 32 bits without a sign, where they lie."""
     view = memoryview(memory)
     if view.format.lstrip("@=<") not in ("I", "L") or view.itemsize != 4:
-        raise TypeError("numbers of 32 bits are wanted, as in array.array('I')")
+        raise _unfit(view, TypeError("numbers of 32 bits are wanted, as in array.array('I')"))
     return _Lent(view, written)
 
 
@@ -429,7 +435,7 @@ def _long_numbers(memory: LongNumbers, written: bool = False) -> _Lent:
     """Numbers of 64 bits without a sign, where they lie."""
     view = memoryview(memory)
     if view.format.lstrip("@=<") not in ("Q", "L") or view.itemsize != 8:
-        raise TypeError("numbers of 64 bits are wanted, as in array.array('Q')")
+        raise _unfit(view, TypeError("numbers of 64 bits are wanted, as in array.array('Q')"))
     return _Lent(view, written)
 
 
@@ -457,6 +463,8 @@ def _call(name: str, *arguments: Any) -> Any:
     finally:
         for each in held:
             each.__exit__()
+        for each in lent:
+            each.view.release()  # an error's frames would have it for as long as the error lives
 
 
 # ---- what comes back

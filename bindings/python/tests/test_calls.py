@@ -422,6 +422,25 @@ class Memory(unittest.TestCase):
             reading.value(reading[0])
         self.assertEqual(caught.exception.number, 12)
 
+    def test_an_error_keeps_nothing_lent(self):
+        for name, call, shown in (
+            ("an overlap", lambda given: gpmf.put_bytes(given, 0, given), memoryview), ("read only", lambda given: gpmf.put(given, 0, 1), lambda lent: memoryview(lent).toreadonly()),
+            ("bytes with gaps", gpmf.rows, lambda lent: memoryview(lent)[::2]), ("no bytes", gpmf.rows, lambda lent: memoryview(lent).cast("I")),
+            ("no numbers", lambda given: gpmf.row_at(given, 0), memoryview), ("no long numbers", lambda given: gpmf.elements_at(b"", 0, given), memoryview),
+            ("numbers with gaps", lambda given: gpmf.row_at(given, 0), lambda lent: memoryview(lent).cast("I")[::2]),
+            ("numbers at an odd place", lambda given: gpmf.row_at(given, 0), lambda lent: memoryview(lent)[1:-3].cast("I")),
+        ):
+            with self.subTest(name):
+                lent, kept = bytearray(64), None
+                given = shown(lent)
+                try:
+                    call(given)
+                except (ValueError, TypeError) as error:
+                    kept = error  # as a caller may, to look into it later
+                given.release()
+                lent.clear()  # raises while something holds the memory
+                self.assertEqual((lent, kept is None), (b"", False))
+
 
 if __name__ == "__main__":
     unittest.main()
