@@ -929,8 +929,9 @@ class Packet:
         """For the mixer: the reading, or where that is refused the reading of what stands before its place, with the same room."""
         if self.reading is not None:
             return self.reading
-        if self._payload is None or self.refusal is None:
+        if self._payload is None:
             return rows(b"", self.forced, self.room)
+        assert self.refusal is not None  # what has no reading has one
         return rows(_flat(self._payload)[: self.refusal.place], self.forced, self.room)
 
 
@@ -1019,9 +1020,6 @@ class Take(Iterator[Packet]):
 
     def __exit__(self, kind: Optional[Type[BaseException]], error: Optional[BaseException], trace: Optional[TracebackType]) -> None:
         self.close()
-
-    def __iter__(self) -> Take:
-        return self
 
     def __next__(self) -> Packet:
         while not self._ready:
