@@ -1106,8 +1106,8 @@ class _Window:
         self.news = self._is_news(searched)
 
     def _is_news(self, searched: int) -> bool:
-        """Whether a packet may be told now. While its end is sought, only the bytes behind those that were searched are: else small pieces would have a packet searched
-        anew for each of them."""
+        """Whether a packet may be told now: it may at the end of the file, over the limit, and where none begins the window. Else its end is sought, in the bytes that were
+        not searched yet: the library would search the whole packet anew for each small piece."""
         if not self.more or len(self.held) > MOST_BYTES or not self.held.startswith(b"DEVC"):
             return True
         return find_devc(self.held, searched) is not None
