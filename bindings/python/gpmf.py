@@ -1,4 +1,4 @@
-"""A proved reader of GPMF, the metadata of action cameras, for CPython 3.9 and later with its global lock, on x86-64.
+"""A proved reader of GPMF, the metadata of action cameras, for CPython 3.9 and later on x86-64.
 
 Which readings of a damaged take had a wet microphone:
 
@@ -20,8 +20,8 @@ A call that is refused raises Refusal, where the library has nothing it is None,
 OverflowError. Bytes are taken where they lie, in bytes, a bytearray or a memoryview. A key is a text: its four letters, or, where one of them cannot be
 seen, x and eight hex digits. A group is a key, or None for the caller's own. A place is counted in bytes from the start of the payload or file.
 
-The module is for CPython as it usually comes, with its global lock: the library is called under that lock, so that no other thread changes memory while it is lent. A
-build without the lock does not give that, and nor do other interpreters."""
+The module is for CPython as it usually comes, with its global lock: the library, as a PyDLL, is called under that lock, so that no other thread changes memory while it
+is lent. A build without the lock does not give that, and nor do other interpreters."""
 from __future__ import annotations
 
 import array
@@ -294,7 +294,7 @@ def _library_file() -> pathlib.Path:
 
 
 def _library() -> ctypes.PyDLL:
-    """The library with its declarations. As a PyDLL it is called under the interpreter's lock: no other thread changes what is lent to a call."""
+    """The library with its declarations."""
     file = _library_file()
     try:
         library = ctypes.PyDLL(str(file))
@@ -358,14 +358,20 @@ def _letter(letter: str) -> int:
     return ord(letter)
 
 
+def _unfit(view: memoryview, error: Exception) -> Exception:
+    """The error for memory that no call takes. The view is let go of: the error's frames have it, and the memory could not be resized for as long as the error lives."""
+    view.release()
+    return error
+
+
 class _Lent:
     """Memory that is lent to a call: so many numbers of one size, which the call may write where it is said to."""
 
     def __init__(self, view: memoryview, written: bool) -> None:
         if not view.c_contiguous:
-            raise ValueError("memory without gaps is wanted")
+            raise _unfit(view, ValueError("memory without gaps is wanted"))
         if written and view.readonly:
-            raise TypeError(f"memory that can be written is wanted, not {type(view.obj).__name__}")
+            raise _unfit(view, TypeError(f"memory that can be written is wanted, not {type(view.obj).__name__}"))
         self.view, self.written = view, written
         self._held = _PyBuffer()
 
@@ -396,25 +402,32 @@ class _PyBuffer(ctypes.Structure):
     ]
 
 
-_hold = ctypes.pythonapi.PyObject_GetBuffer
+_hold = ctypes.pythonapi["PyObject_GetBuffer"]  # by its name in brackets it is one of this module's own, whose types no other module sees
 _hold.argtypes = [ctypes.py_object, c_void_p, ctypes.c_int]
-_let_go = ctypes.pythonapi.PyBuffer_Release
+_let_go = ctypes.pythonapi["PyBuffer_Release"]
 _let_go.argtypes, _let_go.restype = [c_void_p], None
+
+
+def _flat(memory: Bytes) -> memoryview:
+    """Bytes one by one, whatever the shape that they are lent in: a slice of a view of two dimensions is one of its rows."""
+    view = memoryview(memory)
+    if view.itemsize != 1:
+        raise _unfit(view, TypeError(f"bytes are wanted, not numbers of {view.itemsize} bytes"))
+    if not view.c_contiguous:
+        raise _unfit(view, ValueError("memory without gaps is wanted"))
+    return view.cast("B")
 
 
 def _bytes(memory: Bytes, written: bool = False) -> _Lent:
     """Bytes, where they lie."""
-    view = memoryview(memory)
-    if view.itemsize != 1:
-        raise TypeError(f"bytes are wanted, not numbers of {view.itemsize} bytes")
-    return _Lent(view, written)
+    return _Lent(_flat(memory), written)
 
 
 def _numbers(memory: Numbers, written: bool = False) -> _Lent:
     """Numbers of 32 bits without a sign, where they lie."""
     view = memoryview(memory)
     if view.format.lstrip("@=<") not in ("I", "L") or view.itemsize != 4:
-        raise TypeError("numbers of 32 bits are wanted, as in array.array('I')")
+        raise _unfit(view, TypeError("numbers of 32 bits are wanted, as in array.array('I')"))
     return _Lent(view, written)
 
 
@@ -422,7 +435,7 @@ def _long_numbers(memory: LongNumbers, written: bool = False) -> _Lent:
     """Numbers of 64 bits without a sign, where they lie."""
     view = memoryview(memory)
     if view.format.lstrip("@=<") not in ("Q", "L") or view.itemsize != 8:
-        raise TypeError("numbers of 64 bits are wanted, as in array.array('Q')")
+        raise _unfit(view, TypeError("numbers of 64 bits are wanted, as in array.array('Q')"))
     return _Lent(view, written)
 
 
@@ -450,6 +463,8 @@ def _call(name: str, *arguments: Any) -> Any:
     finally:
         for each in held:
             each.__exit__()
+        for each in lent:
+            each.view.release()  # an error's frames would have it for as long as the error lives
 
 
 # ---- what comes back
@@ -636,7 +651,7 @@ class Reading(Sequence[Row]):
             return [self[each] for each in range(*index.indices(len(self)))]
         numbers = row_at(self.numbers, range(len(self))[index])
         if numbers is None:
-            raise IndexError("the numbers have no room for so many rows")
+            raise Refusal(5, 0)  # as the library says of rows that are claimed without room; at an IndexError a loop would end as if there were no more
         return Row.of(numbers)
 
     def __repr__(self) -> str:
@@ -651,7 +666,7 @@ class Reading(Sequence[Row]):
             return None if index is None else self[index]
         tag, key = tag_id(tag_or_key), key_number(tag_or_key)
         index = lookup(self.numbers, len(self), *group_numbers(group), tag, key)
-        while index is not None and self[index].key != tag_or_key:
+        while index is not None and key_number(self[index].key) != key:  # as numbers, for a key may be asked for in hex
             index = lookup(self.numbers, index, *group_numbers(group), tag, key)
         return None if index is None else self[index]
 
@@ -722,7 +737,7 @@ def put_row(out: Numbers, n: int, row: RowNumbers) -> bool:
 
 
 def lookup(rows: Numbers, count: int, group_kind: int, group_key: int, tag: int, key: int) -> Optional[int]:
-    """The index of the last of the first `count` rows of a group and a tag; with tag 0, of a group and a key. Refused with 5 where so many rows have no room."""
+    """The index of the last of the first `count` rows that has the group and the tag, and under tag 0 the key too. Refused with 5 where so many rows have no room."""
     return _whole_or_none(_call("gpmf_lookup", _numbers(rows), _size(count), *(_unsigned(number, 32) for number in (group_kind, group_key, tag, key))))
 
 
@@ -797,13 +812,14 @@ def bytes_at(payload: Bytes, item: ItemOrPlace, type_place: Optional[int] = None
 
 
 def text_at(payload: Bytes, item: ItemOrPlace, row: int, type_place: Optional[int] = None) -> memoryview:
-    """The text of a row of an item's value, as a part of the payload, without the zeros behind it. Refused as an element is; with 13 too where the value is no text."""
+    """The text of a row of an item's value, as a part of the payload: of one text without the zeros behind it, of several up to the first zero. Refused as an element is;
+    with 13 too where the value is no text."""
     return _part(payload, _call("gpmf_text_at", _bytes(payload), *_place_and_type(item, type_place), _size(row)))
 
 
 def _part(payload: Bytes, answer: gpmf_part_answer) -> memoryview:
     _is(answer)
-    return memoryview(payload)[answer.start : answer.start + answer.length]
+    return _flat(payload)[answer.start : answer.start + answer.length]
 
 
 def elements(payload: Bytes, item: ItemOrPlace, type_place: Optional[int] = None) -> List[List[Number]]:
@@ -853,14 +869,15 @@ def _kept(payload: Bytes, at: int, has: Shape) -> Iterator[bytes]:
     item = parse_header(payload, at)
     size = data_len(item) if has.kind == Kind.TEXT else item.size
     length = latin1_len if has.kind == Kind.TEXT else utf8_len
+    every = _flat(payload)[at + 8 : at + 8 + has.rows * size]
     for row in range(has.rows):
-        text = memoryview(payload)[at + 8 + row * size : at + 8 + (row + 1) * size]
+        text = every[row * size : (row + 1) * size]
         yield bytes(text[: length(text)])
 
 
 def value(payload: Bytes, item: ItemOrPlace, type_place: Optional[int] = None) -> Value:
-    """The whole value of an item, refused as a shape is: a number, a list of them, or a list for each row; a text or a list of these; a date as a datetime in UTC;
-    the four numbers of an identifier; None for a type that is not read."""
+    """The whole value of an item, refused as a shape is: a number, a list of them, or a list for each row; a text or a list of these; a date as a datetime in UTC, which
+    for a date or a time that is impossible is the start of 1970; the four numbers of an identifier; None for a type that is not read."""
     at, type_at = _place_and_type(item, type_place)
     has = shape(payload, at, type_at)
     if has.kind == Kind.UNKNOWN:
@@ -912,9 +929,10 @@ class Packet:
         """For the mixer: the reading, or where that is refused the reading of what stands before its place, with the same room."""
         if self.reading is not None:
             return self.reading
-        if self._payload is None or self.refusal is None:
+        if self._payload is None:
             return rows(b"", self.forced, self.room)
-        return rows(memoryview(self._payload)[: self.refusal.place], self.forced, self.room)
+        assert self.refusal is not None  # what has no reading has one
+        return rows(_flat(self._payload)[: self.refusal.place], self.forced, self.room)
 
 
 class More(NamedTuple):
@@ -953,7 +971,7 @@ def _packets(file: Bytes, forced: bool, room: int, lent: array.array[int]) -> It
     number = 1
     cut = next_metadata(file, 0, forced, lent)
     while cut is not None:
-        yield _packet(number, 0, cut, memoryview(file)[cut.start : cut.end], forced, room, lent)
+        yield _packet(number, 0, cut, _flat(file)[cut.start : cut.end], forced, room, lent)
         number += 1
         cut = next_metadata(file, cut.rest, forced, lent)
 
@@ -987,7 +1005,12 @@ class Take(Iterator[Packet]):
         self._at, self._number, self._ended = 0, 0, False
 
     def close(self) -> None:
-        """Closes a file that was opened here, and ends the take."""
+        """Closes a file that was opened here, and ends the take: no packet comes after that."""
+        self._ready.clear()
+        self._end()
+
+    def _end(self) -> None:
+        """Closes a file that was opened here, and reads no more. Packets that are ready still come."""
         self._ended = True
         if self._opened is not None:
             self._opened.close()
@@ -997,9 +1020,6 @@ class Take(Iterator[Packet]):
 
     def __exit__(self, kind: Optional[Type[BaseException]], error: Optional[BaseException], trace: Optional[TracebackType]) -> None:
         self.close()
-
-    def __iter__(self) -> Take:
-        return self
 
     def __next__(self) -> Packet:
         while not self._ready:
@@ -1011,13 +1031,16 @@ class Take(Iterator[Packet]):
     def _go_on(self) -> None:
         """The next packet, or the next piece, or the end."""
         window = self._window
+        if not window.news:
+            window.read(self._file)
+            return
         cut = next_metadata_in(window.held, self._at, window.more, self._forced, self._rows)
         if isinstance(cut, More):
-            window.go_on(self._file, cut.place)
+            window.let_go(cut.place)  # together with the cursor, and before a read that may raise: so the window can always be gone on with
             self._at = 0
         elif cut is None:
             self._end_with_the_file()
-            self.close()
+            self._end()
         else:
             self._at = cut.rest
             self._take_in(cut)
@@ -1058,23 +1081,36 @@ def _piece(piece: int) -> int:
 
 
 class _Window:
-    """The part of a file that is held: where it begins in the file, its bytes, and whether more may follow."""
+    """The part of a file that is held: where it begins in the file, its bytes, whether more may follow, and whether a packet may be told that was not yet."""
 
     def __init__(self, piece: int) -> None:
-        self.piece, self.start, self.held, self.more = piece, 0, bytearray(), True
+        self.piece, self.start, self.held, self.more, self.news = piece, 0, bytearray(), True, False
 
-    def go_on(self, file: Any, place: int) -> None:
-        """Lets go of the bytes before a place, and reads a piece more."""
+    def let_go(self, place: int) -> None:
+        """Lets go of the bytes before a place, where those behind it tell no packet before more is read."""
+        del self.held[:place]
+        self.start += place
+        self.news = False
+
+    def read(self, file: Any) -> None:
+        """Reads a piece more, or raises and leaves what is held."""
         piece = file.read(self.piece)
         if piece is None:
             raise BlockingIOError("the file has no bytes yet, and does not wait for them")
         view = memoryview(piece)
         if view.nbytes > self.piece:
             raise ValueError("the file's read gave more bytes than were asked for")
-        del self.held[:place]
-        self.start += place
+        searched = max(len(self.held) - 3, 0)  # what stands before was searched; a DEVC that is cut off may begin in the last three bytes
         self.held += view
         self.more = view.nbytes > 0
+        self.news = self._is_news(searched)
+
+    def _is_news(self, searched: int) -> bool:
+        """Whether a packet may be told now: it may at the end of the file, over the limit, and where none begins the window. Else its end is sought, in the bytes that were
+        not searched yet: the library would search the whole packet anew for each small piece."""
+        if not self.more or len(self.held) > MOST_BYTES or not self.held.startswith(b"DEVC"):
+            return True
+        return find_devc(self.held, searched) is not None
 
 
 def find_devc(file: Bytes, start: int = 0) -> Optional[int]:
@@ -1278,8 +1314,8 @@ def _of_group(payload: Bytes, rows: Numbers, count: int, group_kind: int, group_
 
 
 def tagged_item(payload: Bytes, rows: Numbers, count: int, group_kind: int, group_key: int, tag: int, key: int) -> Optional[Item]:
-    """The item of a group and a tag; with tag 0, of a group and a key. None where there is no such row. Refused with 1, at place 0, with 5 as lookup, or with 2 or 12,
-    at the row's place, where that holds no such item."""
+    """The item whose row is the last that has the group and the tag, and under tag 0 the key too. None where there is no such row. Refused with 1, at place 0, with 5 as
+    lookup, or with 2 or 12, at the row's place, where that holds no such item."""
     group = _of_group(payload, rows, count, group_kind, group_key)
     return _item_or_none(_call("gpmf_tagged_item", *group, _unsigned(tag, 32), _unsigned(key, 32)))
 
@@ -1321,7 +1357,7 @@ def get_avg_sample_duration(
     counts: Sequence[int], has_stamp: Sequence[bool], stamps: Sequence[int], durations: Sequence[float], missing: Sequence[bool]
 ) -> Optional[float]:
     """Milliseconds for a reading, on average over as many packets as the shortest list has: readings, whether stamped, stamps in microseconds, durations in
-    milliseconds, whether time is missing in front. None where there are no readings. Refused with 11."""
+    milliseconds, whether time is missing since the last stamped packet. None where there are no readings. Refused with 11."""
     lists = _copied("I", counts), _copied("B", map(_flag, has_stamp)), _copied("Q", stamps), _copied("d", durations), _copied("B", map(_flag, missing))
     answer = _call("gpmf_get_avg_sample_duration", *lists)
     return float(answer.value) if _is(answer) else None
@@ -1369,7 +1405,8 @@ def mtrx_to_orientation(mtrx: Sequence[float]) -> str:
 
 
 # ---- printing: text is laid into a buffer from a place on, and the answer is the place behind it; what does not fit is not laid and the answer is FULL, and from
-# FULL on nothing is laid either, so that calls can follow each other unlooked-at
+# FULL on nothing is laid either, so that calls can follow one another without a test between them. A call that lays several parts, as lines, leaves those that were
+# laid before the first that does not fit
 
 
 class Taken(NamedTuple):
@@ -1382,8 +1419,11 @@ class Taken(NamedTuple):
 def listing(payload: Bytes, room: int = MOST_ROWS) -> str:
     """The listing of a payload, as ./gpmf list prints it."""
     numbers = _lent_rows(room)
-    out = bytearray(56 * (room + 1))  # at most 56 bytes a row, and 56 more
-    return out[: put_listing(payload, numbers, out, 0)].decode("ascii")
+    out = bytearray(56 * (len(numbers) // ROW_WIDTH + 1))  # at most 56 bytes a row, and 56 more
+    end = put_listing(payload, numbers, out, 0)
+    if end == FULL:
+        raise OverflowError("a listing that does not fit its buffer")
+    return out[:end].decode("ascii")
 
 
 def _out(out: Union[bytearray, memoryview], at: int) -> Tuple[_Lent, int]:
@@ -1419,7 +1459,7 @@ def put_packet(payload: Bytes, number: int, place: int, whole: bool, rows: Numbe
 
 
 def put_long_packet(number: int, place: int, length: int, whole: bool, out: Union[bytearray, memoryview], at: int) -> int:
-    """A packet of more bytes than are held: its line, and its refusal with 1."""
+    """A packet of more bytes than are held: its line, its refusal with 1, and a front of no rows; with whole, nothing."""
     return int(_call("gpmf_put_long_packet", _size(number), _size(place), _size(length), _flag(whole), *_out(out, at)))
 
 

@@ -4,7 +4,7 @@
 A packet that is refused is not lost: the bytes before the refusal's place, read alone with the same room, are accepted. So what a damaged card still has of the
 second is in the table, and the last column tells the refusal. samples/README.md describes each column."""
 import sys
-from typing import List
+from typing import List, Optional
 
 import gpmf
 
@@ -12,30 +12,34 @@ COLUMNS = "{:>6}  {:>8}  {:>7}  {:>10}  {:>10}  {:>9}  {}"
 HEADER = COLUMNS.format("second", "main wet", "all wet", "confidence", "level dBFS", "peak dBFS", "packet")
 
 
-def column_of(reading: gpmf.Reading, group: str, fewest: int, column: int) -> List[float]:
-    """A column of the readings of a group; empty where they are not there or are refused, or have fewer columns than is right."""
-    row = reading.lookup(group, gpmf.Tag.DATA)
+def elements_of(reading: gpmf.Reading, group: str, tag: gpmf.Tag) -> Optional[List[List[gpmf.Number]]]:
+    """The elements that a group has under a tag, row by row: none where they are refused, and None without such a row. All are asked for at once, since each by
+    itself would go through a whole TYPE text, or through all texts."""
+    row = reading.lookup(group, tag)
     try:
-        if row is None or reading.shape(row).columns < fewest:
-            return []
-        return [float(reading.element(row, n, column)) for n in range(reading.shape(row).rows)]
+        return None if row is None else reading.elements(row)
     except gpmf.Refusal:
         return []
 
 
-def scale_of(reading: gpmf.Reading, group: str, column: int) -> float:
-    """What a column is divided by: SCAL has one number for all columns, or one for each; without SCAL it is 1, and 0 where it cannot be read."""
-    row = reading.lookup(group, gpmf.Tag.SCALE)
-    if row is None:
-        return 1.0
-    try:
-        shape = reading.shape(row)
-        if shape.columns == 0:
-            return 0.0
-        index = 0 if (shape.rows, shape.columns) == (1, 1) else column
-        return float(reading.element(row, index // shape.columns, index % shape.columns))
-    except gpmf.Refusal:
-        return 0.0
+def columns_of(reading: gpmf.Reading, group: str, count: int) -> List[List[float]]:
+    """The first columns of the readings of a group; empty where the readings are not there or are refused, or have fewer columns than that."""
+    rows = elements_of(reading, group, gpmf.Tag.DATA)
+    if not rows or len(rows[0]) < count:
+        return [[] for _ in range(count)]
+    return [[float(row[column]) for row in rows] if all(column < len(row) for row in rows) else [] for column in range(count)]
+
+
+def scales_of(reading: gpmf.Reading, group: str, count: int) -> List[float]:
+    """What each column is divided by: SCAL has one number for all columns, or one for each; without SCAL it is 1, and 0 where it cannot be read."""
+    rows = elements_of(reading, group, gpmf.Tag.SCALE)
+    if rows is None:
+        return [1.0] * count
+    wide = len(rows[0]) if rows else 0
+    if wide == 0:
+        return [0.0] * count
+    places = [divmod(column if len(rows) * wide > 1 else 0, wide) for column in range(count)]
+    return [float(rows[row][at]) if row < len(rows) and at < len(rows[row]) else 0.0 for row, at in places]
 
 
 def share(numbers: List[float]) -> str:
@@ -56,8 +60,8 @@ def mean(numbers: List[float], scale: float) -> str:
 def line_of(packet: gpmf.Packet) -> str:
     """One line of the table."""
     reading, refusal = packet.front(), packet.refusal
-    main, every, confidence = (column_of(reading, "MWET", 3, column) for column in range(3))
-    level, peak = (mean(column_of(reading, "AALP", 2, column), scale_of(reading, "AALP", column)) for column in range(2))
+    main, every, confidence = columns_of(reading, "MWET", 3)
+    level, peak = map(mean, columns_of(reading, "AALP", 2), scales_of(reading, "AALP", 2))
     how = "read" if refusal is None else f"refused {refusal.number} at {refusal.place}"
     return COLUMNS.format(packet.number, share(main), share(every), mean(confidence, 1), level, peak, how)
 

@@ -2,10 +2,11 @@
 import array
 import inspect
 import io
+import types
 import unittest
 
 import gpmf
-from samples import item, raw
+from samples import item, listed, packet_text, raw
 from test_header import public_functions
 
 PAYLOAD = raw("packet")
@@ -130,6 +131,22 @@ class Arguments(unittest.TestCase):
         self.assertRaises(TypeError, gpmf.parse_metadata, b"", False, memoryview(bytes(64)).cast("I"))
         self.assertEqual(gpmf.parse_metadata(b"", False, memoryview(bytearray(64)).cast("I")), (0, 0))
 
+    def test_a_view_of_two_dimensions_is_its_bytes(self):
+        tried = 0
+        for name, words in fitting().items():
+            for parameter, call in replaced(name):
+                if parameter.annotation == "Bytes":
+                    memory = words[list(inspect.signature(getattr(gpmf, name)).parameters).index(parameter.name)]
+                    tried += 1
+                    with self.subTest(name, argument=parameter.name):
+                        self.assertEqual(told(call(memoryview(memory).cast("b", (1, len(memory))))), told(call(memory)))
+        self.assertGreater(tried, 30)
+        wide = memoryview(item("STNM", "c", 1, 8, b"abcdefgh")).cast("B", (4, 4))
+        self.assertEqual((gpmf.value(wide, 0), gpmf.text_at(wide, 0, 0), gpmf.rows(wide).value(gpmf.rows(wide)[0])), ("abcdefgh", b"abcdefgh", "abcdefgh"))
+        out = bytearray(8)
+        self.assertEqual((gpmf.put_bytes(memoryview(out).cast("B", (2, 4)), 1, b"abcdef"), out), (7, b"\0abcdef\0"))
+        self.assertRaises(ValueError, gpmf.rows, memoryview(bytes(32)).cast("B", (8, 4))[::2])
+
     def test_what_is_written_overlaps_nothing(self):
         rows, out = numbers(), bytearray(256)
         plain = memoryview(rows).cast("B")
@@ -159,7 +176,17 @@ class Arguments(unittest.TestCase):
         row = gpmf.Reading(PAYLOAD, lent, 8, 0)[7]
         self.assertEqual((row.place, row.group, row.key, row.type, row.size, row.repeat), (2**32 - 1, "xffffffff", "xffffffff", "\xff", 255, 65535))
         self.assertRaises(gpmf.Refusal, gpmf.value, PAYLOAD, row)
-        self.assertRaises(IndexError, gpmf.Reading(PAYLOAD, lent, 9, 0).__getitem__, 8)
+
+    def test_rows_without_room_are_refused_as_the_library_does(self):
+        lent = numbers()
+        short = gpmf.Reading(PAYLOAD, lent, 64, 0)
+        self.assertEqual(len(list(short)), 64)
+        del lent[-1:]
+        for call in lambda: list(short), lambda: short[63], lambda: short[:], lambda: short.lookup("MWET", "MWET"), lambda: list(gpmf.Reading(b"", lent, 64, 0)):
+            with self.assertRaises(gpmf.Refusal) as caught:
+                call()
+            self.assertEqual(caught.exception.args, (5, 0))
+        self.assertRaises(IndexError, short.__getitem__, 64)
 
     def test_a_value_is_asked_of_any_bytes(self):
         for at in range(0, 400):
@@ -176,6 +203,15 @@ class Arguments(unittest.TestCase):
 
     def test_an_item_is_asked_of_any_bytes(self):
         self.assertEqual(gpmf.value(item("ABCD", "B", 1, 1, b"\7"), gpmf.Item("WXYZ", "f", 99, 99, 0)), 7)  # its bytes tell what it is
+
+
+def told(answer):
+    """An answer in words that can be compared."""
+    if isinstance(answer, gpmf.Reading):
+        return listed(answer)
+    if isinstance(answer, types.GeneratorType):
+        return [(packet_text(packet), bytes(packet.payload), told(packet.front())) for packet in answer]
+    return answer
 
 
 def answered(call, number):

@@ -6,6 +6,7 @@ import struct
 import time
 import tracemalloc
 import unittest
+import unittest.mock
 from fractions import Fraction
 
 import gpmf
@@ -76,6 +77,7 @@ class Rows(Refusing):
             found = gpmf.tagged_item(reading.payload, reading.numbers, len(reading), *numbers, tag, gpmf.key_number(key))
             row = reading.lookup(group, key)
             self.assertEqual(found, (row.key, row.type, row.size, row.repeat, row.place))
+            self.assertEqual(gpmf.tagged_item(reading.payload, reading.numbers, len(reading), *numbers, 0, gpmf.key_number(key)), None if tag else found)
         self.assertIsNone(gpmf.tagged_item(reading.payload, reading.numbers, 0, 1, 1, 1, 1))
         for call, more in (gpmf.tagged_item, (5, 0)), (gpmf.stamp_us, ()), (gpmf.scaled_quaternion, (0,)), (gpmf.orientation_of_group, ()):
             self.refused(5, 0, call, reading.payload, reading.numbers, len(reading) + 1, *gpmf.group_numbers("CORI"), *more)
@@ -165,6 +167,7 @@ class Values(Refusing):
         self.assertEqual(gpmf.klv_at(payload, 16), gpmf.Item("STNM", "c", 1, 4, 16))
         self.assertEqual([bytes(gpmf.bytes_at(payload, at)) for at in (0, 16, 28)], [b"degm\0\0", b"Wet\0", b"123"])
         self.assertEqual([bytes(gpmf.text_at(payload, at, row)) for at, row in ((0, 0), (0, 1), (16, 0))], [b"deg", b"m", b"Wet"])
+        self.assertEqual([bytes(gpmf.text_at(item("ABCD", "c", size, repeat, b"a\0b\0d\0"), 0, 0)) for size, repeat in ((6, 1), (3, 2))], [b"a\0b\0d", b"a"])
         self.refused(13, 0, gpmf.text_at, payload, 0, 2)
         self.refused(13, 16, gpmf.text_at, payload, 16, 1)
         self.refused(13, 28, gpmf.text_at, payload, 28, 0)
@@ -199,6 +202,8 @@ class Values(Refusing):
         self.assertEqual(gpmf.utc(0), datetime.datetime(1970, 1, 1, tzinfo=UTC))
         self.assertEqual(gpmf.utc(1709251198400).isoformat(), "2024-02-29T23:59:58.400000+00:00")
         self.assertEqual(gpmf.parse_utcdate(b"240229235958.400"), 1709251198400)
+        for impossible in b"230229120000.000", b"240229240000.000":
+            self.assertEqual(gpmf.value(item("ABCD", "U", 16, 1, impossible), 0), gpmf.utc(0))
         self.refused(6, 0, gpmf.parse_utcdate, b"240229235958.40")
         self.refused(7, 0, gpmf.parse_utcdate, b"24\xff229235958.400")
 
@@ -342,6 +347,19 @@ class Printing(Refusing):
         self.assertEqual((end, out[:10], out[10:end].decode()), (10 + len(text), bytes(10), text))
         self.assertEqual((gpmf.put_rows(out, 0, lent, 1), out[:22]), (22, b"8 GYRO SCAL 115 2 1 1\n"))
         self.assertEqual((gpmf.put_rows(out, 0, lent, 2), out[:15]), (15, b"refused 5 at 0\n"))
+        short = bytearray(30)
+        self.assertEqual((gpmf.put_listing(CASE_12, lent, short, 0), short), (gpmf.FULL, b"rows 1 headers 5\n".ljust(30, b"\0")))
+
+    def test_a_room_is_any_whole_number(self):
+        class Sixty:
+            def __index__(self):
+                return 60
+
+        self.assertEqual(gpmf.listing(raw("packet"), Sixty()), gpmf.listing(raw("packet")))
+
+    def test_a_listing_is_whole_or_raises(self):
+        with unittest.mock.patch.object(gpmf, "put_listing", return_value=gpmf.FULL):
+            self.assertRaises(OverflowError, gpmf.listing, CASE_12)
 
     def test_packets(self):
         out, lent = bytearray(200), array.array("I", bytes(32))
@@ -403,6 +421,25 @@ class Memory(unittest.TestCase):
         with self.assertRaises(gpmf.Refusal) as caught:
             reading.value(reading[0])
         self.assertEqual(caught.exception.number, 12)
+
+    def test_an_error_keeps_nothing_lent(self):
+        for name, call, shown in (
+            ("an overlap", lambda given: gpmf.put_bytes(given, 0, given), memoryview), ("read only", lambda given: gpmf.put(given, 0, 1), lambda lent: memoryview(lent).toreadonly()),
+            ("bytes with gaps", gpmf.rows, lambda lent: memoryview(lent)[::2]), ("no bytes", gpmf.rows, lambda lent: memoryview(lent).cast("I")),
+            ("no numbers", lambda given: gpmf.row_at(given, 0), memoryview), ("no long numbers", lambda given: gpmf.elements_at(b"", 0, given), memoryview),
+            ("numbers with gaps", lambda given: gpmf.row_at(given, 0), lambda lent: memoryview(lent).cast("I")[::2]),
+            ("numbers at an odd place", lambda given: gpmf.row_at(given, 0), lambda lent: memoryview(lent)[1:-3].cast("I")),
+        ):
+            with self.subTest(name):
+                lent, kept = bytearray(64), None
+                given = shown(lent)
+                try:
+                    call(given)
+                except (ValueError, TypeError) as error:
+                    kept = error  # as a caller may, to look into it later
+                given.release()
+                lent.clear()  # raises while something holds the memory
+                self.assertEqual((lent, kept is None), (b"", False))
 
 
 if __name__ == "__main__":

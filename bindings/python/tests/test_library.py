@@ -1,4 +1,5 @@
 """Where the module finds the library, and what it says where it does not; its usage, as a doctest; the example."""
+import ctypes
 import doctest
 import os
 import pathlib
@@ -8,9 +9,11 @@ import subprocess
 import sys
 import tempfile
 import unittest
+import unittest.mock
 
 import gpmf
-from samples import ROOT, SAMPLES, seconds, stored
+import mixer
+from samples import ROOT, SAMPLES, item, raw, seconds, stored
 
 MODULE = pathlib.Path(gpmf.__file__).resolve()
 LIBRARY = gpmf._library_file()
@@ -70,6 +73,14 @@ class Search(unittest.TestCase):
         self.assertRegex(said.stderr.splitlines()[-1], r"^ImportError: .*libgpmf\.so is not the library of this module: run \./gpmf lib")
 
 
+class Interpreter(unittest.TestCase):
+    def test_its_functions_are_as_they_were_for_other_modules(self):
+        names = "PyObject_GetBuffer", "PyBuffer_Release"
+        asked = f"[(f.argtypes, f.restype) for f in map(lambda name: getattr(ctypes.pythonapi, name), {names})]"
+        said = run(MODULE.parent, LIBRARY, "-c", f"import ctypes; before = {asked}; import gpmf; gpmf.rows(b''); print({asked} == before, before)")
+        self.assertEqual((said.stdout, said.stderr), (f"True {[(None, ctypes.c_int)] * 2}\n", ""))
+
+
 class Usage(unittest.TestCase):
     def test_the_module_does_what_its_usage_says(self):
         before = os.getcwd()
@@ -91,6 +102,26 @@ class Usage(unittest.TestCase):
             with self.subTest(name):
                 said = run(MODULE.parent, LIBRARY, "mixer.py", str(SAMPLES / f"{name}.raw"))
                 self.assertEqual((said.stdout, said.stderr, said.returncode), (stored(f"{name}.table"), "", 0))
+
+    def test_the_example_asks_for_each_value_once(self):
+        """MWET, AALP and SCAL: an element by itself would go through a whole TYPE text, or through all texts."""
+        for packet in gpmf.packets(raw("take")):
+            with unittest.mock.patch.object(gpmf, "_call", wraps=gpmf._call) as call:
+                self.assertEqual(mixer.line_of(packet), stored("take.table").splitlines()[packet.number])
+            names = [each.args[0] for each in call.call_args_list]
+            self.assertEqual((names.count("gpmf_elements_at"), names.count("gpmf_element")), (3, 0))
+
+    def test_the_example_has_a_stroke_for_a_column_that_is_not_in_all_rows(self):
+        def cells(wet, gain, scale):
+            streams = [item("MWET", "c", 3, 2, wet), item("SCAL", "c", 2, 2, scale) + item("AALP", "c", 2, 2, gain)]
+            (packet,) = gpmf.packets(b"DEVC\0\1\0\0" + b"".join(item("STRM", "\0", 1, len(each), each) for each in streams))
+            return mixer.line_of(packet).split()[1:6]
+
+        self.assertEqual(cells(b"abcabc", b"\2\4\4\x08", b"\1\2ab"), ["2/2", "2/2", "99.0", "3.0", "3.0"])
+        self.assertEqual(cells(b"abcab\0", b"\2\4\4\0", b"\1\2ab"), ["2/2", "2/2", "-", "3.0", "-"])
+        self.assertEqual(cells(b"ab\0abc", b"\2\0\4\4", b"\1\2ab"), ["-"] * 5)
+        self.assertEqual(cells(b"abcabc", b"\2\4\4\x08", b"\1\0\0\0"), ["2/2", "2/2", "99.0", "3.0", "-"])
+        self.assertEqual(cells(b"abcabc", b"\2\4\4\x08", b"\0\0\1\2"), ["2/2", "2/2", "99.0", "-", "-"])
 
     def test_the_example_says_how_it_is_used(self):
         said = run(MODULE.parent, LIBRARY, "mixer.py")

@@ -2,11 +2,13 @@
 import array
 import datetime
 import io
+import itertools
 import os
 import random
 import struct
 import tempfile
 import unittest
+import unittest.mock
 
 import gpmf
 from samples import NAMES, SAMPLES, item, listed, packet_text, raw, refused, seconds, stored, take_model, take_text
@@ -126,6 +128,13 @@ class Values(unittest.TestCase):
         for group, key in (None, "MWET"), ("MWET", "GPSP"), ("FOUR", "MWET"), ("ACCL", "UNIT"):
             self.assertIsNone(reading.lookup(group, key))
 
+    def test_a_key_may_be_asked_for_in_hex(self):
+        reading = self.readings[0]
+        for row in reading:
+            self.assertEqual(reading.lookup(row.group, f"x{gpmf.key_number(row.key):08x}"), reading.lookup(row.group, row.key))
+        self.assertEqual(reading.lookup(f"x{gpmf.key_number('MWET'):08x}", "STNM").group, "MWET")
+        self.assertIsNone(reading.lookup("MWET", f"x{gpmf.key_number('DVNM'):08x}"))  # which has the tag of STNM
+
     def test_lookup_with_one_group_for_all(self):
         reading = gpmf.rows(self.packets[0].payload, forced=True)
         self.assertEqual({row.group for row in reading}, {None})
@@ -236,11 +245,33 @@ class PieceByPiece(unittest.TestCase):
         for piece in 4096, 65536:
             file = Endless(30_000_000)
             take = gpmf.open_take(file, piece=piece)
-            go_on, most = take._window.go_on, []
-            take._window.go_on = lambda *words: (go_on(*words), most.append(len(take._window.held)))
+            read, most = take._window.read, []
+            take._window.read = lambda *words: (read(*words), most.append(len(take._window.held)))
             self.assertEqual([packet.length for packet in take], [30_000_000 - 8])
             self.assertLessEqual(max(most), 8 + gpmf.MOST_BYTES + 3 + piece)
             self.assertGreater(max(most), gpmf.MOST_BYTES)
+
+
+    def test_a_packet_is_not_searched_anew_for_each_piece(self):
+        file = DEVC + bytes(gpmf.MOST_BYTES - 5) + DEVC + item("ABCD", "B", 1, 3, b"abc") + bytes(200_000)
+        searched = []
+
+        def counted(call):
+            return lambda window, at, *words: (searched.append(len(window) - at), call(window, at, *words))[1]
+
+        for piece in 16, 1000, 65536:
+            searched.clear()
+            with unittest.mock.patch.multiple(gpmf, next_metadata_in=counted(gpmf.next_metadata_in), find_devc=counted(gpmf.find_devc)):
+                self.assertEqual([packet.length for packet in gpmf.open_take(io.BytesIO(file), piece=piece)], [gpmf.MOST_BYTES - 5, 200_012])
+            self.assertLess(sum(searched), 4 * len(file) + 3 * len(file) // piece)
+
+    def test_a_packet_is_told_as_soon_as_its_end_is_read(self):
+        good = DEVC + item("ABCD", "B", 1, 3, b"abc")
+        for piece in PIECES:
+            file = io.BytesIO(b"..." + good * 2 + b"DEVC")
+            take = gpmf.open_take(file, piece=piece)
+            for number in 1, 2:
+                self.assertEqual((next(take).number, file.tell()), (number, min(-(-(3 + number * len(good) + 4) // piece) * piece, len(file.getvalue()))))
 
 
 class Endless:
@@ -261,6 +292,24 @@ class Short(io.BytesIO):
 
     def read(self, count=-1):
         return super().read(min(count, 5))
+
+
+class Failing(io.BytesIO):
+    """A file that gives no piece every other time: it has none yet, or raises, or gives what is no piece."""
+
+    def __init__(self, file):
+        super().__init__(file)
+        self.wrong = itertools.cycle((None, memoryview(bytes(8))[::2], "text", [1], OSError("no piece")))
+        self.calls = 0
+
+    def read(self, count=-1):
+        self.calls += 1
+        if self.calls % 2:
+            return super().read(count)
+        wrong = next(self.wrong)
+        if isinstance(wrong, OSError):
+            raise wrong
+        return wrong
 
 
 class Files(unittest.TestCase):
@@ -293,6 +342,15 @@ class Files(unittest.TestCase):
         self.assertTrue(take._opened.closed)
         self.assertEqual(list(take), [])
 
+    def test_no_packet_comes_after_close(self):
+        over = DEVC + bytes(2 * gpmf.MOST_BYTES)
+        for file in over + DEVC + item("ABCD", "B", 1, 3, b"abc"), b"DEVC\0" + over:  # of each, both packets are known at once
+            self.assertEqual([packet.number for packet in gpmf.open_take(io.BytesIO(file))], [1, 2])
+            take = gpmf.open_take(io.BytesIO(file))
+            self.assertEqual((next(take).number, len(take._ready)), (1, 1))
+            take.close()
+            self.assertEqual(list(take), [])
+
     def test_packets_outlive_the_window(self):
         packets = list(gpmf.open_take(SAMPLES / "take.raw", piece=10))
         self.assertEqual("".join(map(packet_text, packets)), "".join(map(packet_text, gpmf.packets(raw("take")))))
@@ -312,6 +370,19 @@ class Files(unittest.TestCase):
         greedy = Endless(100)
         greedy.read = lambda count: bytes(count + 1)
         self.assertRaises(ValueError, list, gpmf.open_take(greedy))
+
+    def test_no_packet_is_lost_where_a_read_fails(self):
+        for name in NAMES:
+            for piece in 1, 7, 100, 1228, 4096:
+                take, found, failed = gpmf.open_take(Failing(raw(name)), piece=piece), [], 0
+                while not take._ended:
+                    try:
+                        for packet in take:
+                            found.append(packet)
+                    except (OSError, TypeError, ValueError):
+                        failed += 1
+                self.assertEqual(take_text(found), stored(f"{name}.take"))
+                self.assertEqual(failed, take._file.calls // 2)
 
     def test_an_open_file_is_read_from_where_it_stands(self):
         with tempfile.TemporaryFile() as file:
