@@ -5,11 +5,13 @@
 #include "gpmf.h"
 
 #include <errno.h>
+#include <math.h>
 #include <stdio.h>
 #include <stdlib.h>
 #include <string.h>
 
 #define NUMBERS ((size_t)GPMF_MOST_ROWS * GPMF_ROW_WIDTH)
+#define CELL 313 /* room for every double with one digit behind the point: a sign, 309 digits, the point, a digit, and the zero behind */
 
 /* A payload that was accepted, and its rows. */
 typedef struct reading {
@@ -107,8 +109,8 @@ static void scales(const reading *from, uint32_t group, double divisors[2]) {
     }
 }
 
-/* The mean of a column over its scale, with one digit behind the point, or a stroke. */
-static void mean(const value *of, size_t column, double divisor, char cell[32]) {
+/* The mean of a column over its scale, with one digit behind the point; the stroke stays where there is none. A NaN is `nan`, also one that C prints with a sign. */
+static void mean(const value *of, size_t column, double divisor, char cell[CELL]) {
     double sum = 0;
     if (divisor == 0) return;
     for (size_t row = 0; row < of->rows; row++) {
@@ -116,25 +118,27 @@ static void mean(const value *of, size_t column, double divisor, char cell[32]) 
         if (!element(of, row, column, &number)) return;
         sum += number / divisor;
     }
-    snprintf(cell, 32, "%.1f", sum / (double)of->rows);
+    sum /= (double)of->rows;
+    if (isnan(sum)) snprintf(cell, CELL, "nan");
+    else snprintf(cell, CELL, "%.1f", sum);
 }
 
 /* How many numbers of a column are not 0, and how many there are. */
-static void share(const value *of, size_t column, char cell[32]) {
+static void share(const value *of, size_t column, char cell[CELL]) {
     size_t wet = 0;
     for (size_t row = 0; row < of->rows; row++) {
         double number;
         if (!element(of, row, column, &number)) return;
         wet += number != 0 ? 1 : 0;
     }
-    snprintf(cell, 32, "%zu/%zu", wet, of->rows);
+    snprintf(cell, CELL, "%zu/%zu", wet, of->rows);
 }
 
 /* One line of the table. */
 static void print_second(unsigned long second, const reading *from, const char *packet) {
     const uint32_t mwet = GPMF_KEY('M', 'W', 'E', 'T');
     const uint32_t aalp = GPMF_KEY('A', 'A', 'L', 'P');
-    char cells[5][32] = {"-", "-", "-", "-", "-"};
+    char cells[5][CELL] = {"-", "-", "-", "-", "-"};
     value found;
     double divisors[2];
     scales(from, aalp, divisors);

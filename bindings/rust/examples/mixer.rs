@@ -71,11 +71,12 @@ fn share(rows: &Rows, at: usize) -> Option<String> {
     Some(format!("{}/{}", numbers.iter().filter(|&&number| number != 0.0).count(), numbers.len()))
 }
 
-/// The mean of a column over its scale.
+/// The mean of a column over its scale. A NaN is `nan`, as in the other languages, and not Rust's `NaN`.
 fn mean(rows: &Rows, at: usize, divisor: f64) -> Option<String> {
     let numbers = column(rows, at)?;
     let sum: f64 = numbers.iter().fold(0.0, |sum, number| sum + number / divisor);
-    Some(format!("{:.1}", sum / numbers.len() as f64))
+    let mean = sum / numbers.len() as f64;
+    Some(if mean.is_nan() { "nan".into() } else { format!("{mean:.1}") })
 }
 
 /// One line of the table.
