@@ -6,6 +6,7 @@ use crate::number::Element;
 use crate::refusal::Refusal;
 use crate::rows::{lookup, parse_metadata, row_at, Counts, Group, Row, MOST_ROWS, ROW_WIDTH};
 use crate::value::{bytes_at, columns_at, element, elements_at, shape_at, text_at, Shape};
+use std::fmt;
 
 /// What a payload is read as: its rows, which lead to its values.
 ///
@@ -18,11 +19,18 @@ use crate::value::{bytes_at, columns_at, element, elements_at, shape_at, text_at
 /// assert_eq!(wet.element(2, 0)?, Element::Unsigned(1));
 /// # Ok::<(), Box<dyn std::error::Error>>(())
 /// ```
-#[derive(Clone, Debug)]
+#[derive(Clone)]
 pub struct Reading<'a> {
     payload: &'a [u8],
     rows: Vec<u32>,
     counts: Counts,
+}
+
+/// Its counts: the bytes and the rows themselves may be a million.
+impl fmt::Debug for Reading<'_> {
+    fn fmt(&self, f: &mut fmt::Formatter<'_>) -> fmt::Result {
+        f.debug_struct("Reading").field("bytes", &self.payload.len()).field("rows", &self.counts.rows).field("headers", &self.counts.headers).finish()
+    }
 }
 
 impl<'a> Reading<'a> {
@@ -218,10 +226,17 @@ impl<'a> Reading<'a> {
 /// assert_eq!(gain.element(0, 0)?, gpmf::Element::Signed(-35));
 /// # Ok::<(), Box<dyn std::error::Error>>(())
 /// ```
-#[derive(Clone, Copy, Debug)]
+#[derive(Clone, Copy)]
 pub struct Item<'a> {
     payload: &'a [u8],
     row: Row,
+}
+
+/// Its row, which tells its place and its length, and not the bytes that were read.
+impl fmt::Debug for Item<'_> {
+    fn fmt(&self, f: &mut fmt::Formatter<'_>) -> fmt::Result {
+        f.debug_struct("Item").field("row", &self.row).finish_non_exhaustive()
+    }
 }
 
 impl<'a> Item<'a> {

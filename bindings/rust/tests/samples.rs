@@ -113,6 +113,21 @@ fn a_refused_packet_has_a_front() {
     assert_eq!(rows, [7; 512]);
 }
 
+/// What holds bytes or rows tells how many there are, and not the bytes and rows themselves.
+#[test]
+fn what_is_told_for_debugging_is_short() {
+    let file = sample("damaged.raw");
+    let mut packets = gpmf::packets(&file);
+    let first = packets.next().unwrap();
+    assert_eq!(format!("{first:?}"), "Packet { range: 8..1220, reading: Ok(Reading { bytes: 1212, rows: 57, headers: 125 }) }");
+    assert_eq!(format!("{packets:?}"), "Packets { bytes: 5906, at: 1220 }");
+    assert_eq!(format!("{:?}", packets.next().unwrap()), "Packet { range: 1228..2430, reading: Err(Refusal { number: 2, place: 984 }) }");
+    let reading = first.reading().unwrap();
+    let wet = reading.item(Group::of(*b"MWET"), Tag::Data).unwrap();
+    assert_eq!(format!("{reading:?}"), "Reading { bytes: 1212, rows: 57, headers: 125 }");
+    assert_eq!(format!("{wet:?}"), format!("Item {{ row: {:?}, .. }}", wet.row()));
+}
+
 /// Every packet of a file that is read in windows of a size, each begun where the one before said.
 fn in_windows(file: &[u8], size: usize) -> Vec<Range<usize>> {
     let (mut start, mut end, mut cursor, mut found) = (0, size, PacketCursor::new(0), Vec::new());
