@@ -163,7 +163,7 @@ impl<'a> Reading<'a> {
         Item { payload: self.payload, row }
     }
 
-    /// The item of a group and tag: of several the last.
+    /// The item of a group and tag: of several the last. [`Tag::Other`] finds no key that has a tag, as MWET has: there take [`Tag::of`].
     ///
     /// ```
     /// use gpmf::{Group, Reading, Tag};
