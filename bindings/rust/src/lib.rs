@@ -22,6 +22,8 @@
 //! ```
 //!
 //! A packet that is refused is not lost: [`Packet::front`] reads what stands before the place.
+//!
+//! Calls that print lay text into a lent buffer from a place on and tell the place behind it, or `None` where it does not fit.
 #![warn(missing_docs)]
 
 mod axes;

@@ -251,11 +251,13 @@ impl<'a> Item<'a> {
         bytes_at(self.payload, self.row.place as usize, self.type_place())
     }
 
-    /// The text of a row of its value, without the zeros behind it. Refused with 13 too where the value is no text.
+    /// The text of a row of its value: of one text without the zeros behind it, of several up to the first zero. Refused with 13 too where the value is no text. Each call goes
+    /// through all texts of several, as [`text_at`](crate::text_at).
     ///
     /// ```
-    /// let reading = gpmf::Reading::of(b"UNITc\x03\x00\x02degm\0\0")?;
-    /// assert_eq!(reading.item_of(reading.row(0).unwrap()).text(0)?, b"deg");
+    /// let reading = gpmf::Reading::of(b"UNITc\x03\x00\x02degm\0s")?;
+    /// let units = reading.item_of(reading.row(0).unwrap());
+    /// assert_eq!((units.text(0)?, units.text(1)?), (b"deg".as_slice(), b"m".as_slice()));
     /// # Ok::<(), gpmf::Refusal>(())
     /// ```
     pub fn text(&self, row: usize) -> Result<&'a [u8], Refusal> {
@@ -286,7 +288,7 @@ impl<'a> Item<'a> {
         shape_at(self.payload, self.row.place as usize, self.type_place())
     }
 
-    /// The columns of a row of its value.
+    /// The columns of a row of its value. Each call costs as much as [`Item::element`].
     ///
     /// ```
     /// let reading = gpmf::Reading::of(b"UNITc\x03\x00\x02degm\0\0")?;
@@ -297,7 +299,8 @@ impl<'a> Item<'a> {
         columns_at(self.payload, self.row.place as usize, self.type_place(), row)
     }
 
-    /// The element at a row and a column of its value. Refused with 2, 6, 7, 8, 12 or 13.
+    /// The element at a row and a column of its value. Refused with 2, 6, 7, 8, 12 or 13. Each call goes through the whole TYPE text of a structure, or through all texts of several:
+    /// for all elements take [`Item::elements_at`].
     ///
     /// ```
     /// let reading = gpmf::Reading::of(b"ABCDB\x05\x00\x01abcde")?;

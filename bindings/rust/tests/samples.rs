@@ -49,6 +49,18 @@ fn takes_are_printed_as_stored() {
     }
 }
 
+/// 56 bytes for each row that there is room for, and 162 more, hold every packet, with the largest numbers in its line.
+#[test]
+fn the_room_that_a_packet_needs_is_known() {
+    let file = sample("damaged.raw");
+    for packet in gpmf::packets(&file) {
+        let rows = packet.clone().front().0.len();
+        let about = gpmf::About { number: u64::MAX, place: u64::MAX, whole: false };
+        let (end, accepted) = gpmf::put_packet(packet.payload(), about, &mut vec![0; 8 * rows], &mut vec![0; 56 * rows + 162], 0);
+        assert_eq!((end.is_some(), accepted), (true, packet.reading().is_ok()));
+    }
+}
+
 fn unsigned(element: Element) -> u64 {
     match element {
         Element::Unsigned(n) => n,
