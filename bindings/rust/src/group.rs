@@ -5,8 +5,8 @@ use crate::refusal::{told, Refusal};
 use crate::rows::Group;
 use crate::sys;
 
-/// The item of a group and tag, if there is such a row: where it stands, and its header. Refused with 1, at place 0, with 5 as [`lookup`](crate::lookup), or with 2 or 12,
-/// at the row's place, where that holds no such item.
+/// The item of a group and tag, if there is such a row: where it stands, and its header. The row is that of [`lookup`](crate::lookup), and so [`Tag::Other`] finds no key that has a
+/// tag. Refused with 1, at place 0, with 5 as [`lookup`](crate::lookup), or with 2 or 12, at the row's place, where that holds no such item.
 ///
 /// ```
 /// use gpmf::{tagged_item, Group, Tag};
@@ -15,6 +15,7 @@ use crate::sys;
 /// let count = gpmf::parse_metadata(payload, false, &mut rows)?.rows;
 /// let (place, header) = tagged_item(payload, &rows, count, Group::CALLER, Tag::Scale)?.unwrap();
 /// assert_eq!((place, &header.key), (0, b"SCAL"));
+/// assert_eq!(tagged_item(payload, &rows, count, Group::CALLER, Tag::Other(*b"SCAL"))?, None);
 /// assert_eq!(tagged_item(&payload[..9], &rows, count, Group::CALLER, Tag::Scale).unwrap_err().number, gpmf::Refusal::PAST_END);
 /// # Ok::<(), gpmf::Refusal>(())
 /// ```

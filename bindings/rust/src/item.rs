@@ -192,7 +192,18 @@ pub enum Tag {
     Orin,
     /// The order in which they are wanted.
     Orio,
-    /// None of these: known by the key alone.
+    /// None of these: known by the key alone. A lookup with it finds no item whose key has a tag; [`Tag::of`] is right for any key, and may find another key of the same tag, as
+    /// UNIT for SIUN.
+    ///
+    /// ```
+    /// use gpmf::{Group, Reading, Tag};
+    /// let payload = std::fs::read("../../samples/packet.raw")?;
+    /// let reading = Reading::of(&payload)?;
+    /// let group = Group::of(*b"MWET");
+    /// assert!(reading.item(group, Tag::Other(*b"MWET")).is_none());
+    /// assert_eq!(reading.item(group, Tag::of(*b"MWET")).unwrap().row().key, *b"MWET");
+    /// # Ok::<(), Box<dyn std::error::Error>>(())
+    /// ```
     Other(Key),
 }
 

@@ -5,17 +5,16 @@
 //! Which seconds of a take had a wet microphone:
 //!
 //! ```
-//! use gpmf::{Element, Group, Tag};
+//! use gpmf::{Group, Tag};
 //! let file = std::fs::read("../../samples/take.raw")?;
 //! let mut wet = Vec::new();
 //! for (second, packet) in gpmf::packets(&file).enumerate() {
 //!     let reading = packet.reading()?;
 //!     let Some(mwet) = reading.item(Group::of(*b"MWET"), Tag::Data) else { continue };
-//!     for row in 0..mwet.shape()?.rows {
-//!         if mwet.element(row, 0)? != Element::Unsigned(0) {
-//!             wet.push(second + 1);
-//!             break;
-//!         }
+//!     let mut numbers = vec![0; mwet.bytes()?.len()]; // room for all: no element has less than a byte
+//!     let count = mwet.elements_at(&mut numbers)?; // at once: `element` reads one, and of a structure goes through the whole TYPE text for it
+//!     if numbers[..count].iter().step_by(mwet.shape()?.columns.max(1)).any(|&main| main != 0) {
+//!         wet.push(second + 1);
 //!     }
 //! }
 //! assert_eq!(wet, [2, 3, 4]);
@@ -23,6 +22,8 @@
 //! ```
 //!
 //! A packet that is refused is not lost: [`Packet::front`] reads what stands before the place.
+//!
+//! Calls that print lay text into a lent buffer from a place on and tell the place behind it, or `None` where it does not fit.
 #![warn(missing_docs)]
 
 mod axes;

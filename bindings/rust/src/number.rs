@@ -113,11 +113,12 @@ pub fn element_at(bytes: &[u8], at: usize, letter: u8) -> Element {
     Element::from_sys(unsafe { sys::gpmf_element_at(bytes.as_ptr(), bytes.len(), at, letter) })
 }
 
-/// The exact form of the `Q` number at a place.
+/// The exact form of the `Q` number at a place; 0 / 4294967295 where its bytes are not all there.
 ///
 /// ```
 /// let bytes = [0xff, 0xff, 0xff, 0xff, 0, 0, 0, 5];
 /// assert_eq!(gpmf::exact_at(&bytes, 0).numerator, -4294967290);
+/// assert_eq!(gpmf::exact_at(&bytes, 1), gpmf::Exact { numerator: 0, denominator: 4294967295 });
 /// ```
 pub fn exact_at(bytes: &[u8], at: usize) -> Exact {
     Exact::from_sys(unsafe { sys::gpmf_exact_at(bytes.as_ptr(), bytes.len(), at) })

@@ -3,6 +3,7 @@ use crate::reading::Reading;
 use crate::refusal::Refusal;
 use crate::rows::{counts, Counts, MOST_ROWS, ROW_WIDTH};
 use crate::sys;
+use std::fmt;
 use std::ops::Range;
 
 /// The place of the first DEVC from a place on.
@@ -159,11 +160,18 @@ impl PacketCursor {
 /// assert_eq!(second.reading().unwrap_err(), gpmf::Refusal { number: gpmf::Refusal::PAST_END, place: 984 });
 /// # Ok::<(), std::io::Error>(())
 /// ```
-#[derive(Clone, Debug)]
+#[derive(Clone)]
 pub struct Packet<'a> {
     range: Range<usize>,
     payload: &'a [u8],
     reading: Result<Reading<'a>, Refusal>, // what the payload is read as, and nothing else: `front` rests on that
+}
+
+/// Where it stands, and what it is read as, without its bytes.
+impl fmt::Debug for Packet<'_> {
+    fn fmt(&self, f: &mut fmt::Formatter<'_>) -> fmt::Result {
+        f.debug_struct("Packet").field("range", &self.range).field("reading", &self.reading).finish()
+    }
 }
 
 impl<'a> Packet<'a> {
@@ -222,11 +230,18 @@ impl<'a> Packet<'a> {
 /// assert_eq!(packets.filter(|packet| packet.reading().is_ok()).count(), 2);
 /// # Ok::<(), std::io::Error>(())
 /// ```
-#[derive(Clone, Debug)]
+#[derive(Clone)]
 pub struct Packets<'a> {
     file: &'a [u8],
     cursor: PacketCursor,
     rows: Vec<u32>,
+}
+
+/// How long the file is, and the place from which the next packet is sought.
+impl fmt::Debug for Packets<'_> {
+    fn fmt(&self, f: &mut fmt::Formatter<'_>) -> fmt::Result {
+        f.debug_struct("Packets").field("bytes", &self.file.len()).field("at", &self.cursor.at).finish()
+    }
 }
 
 /// The packets of a raw file.

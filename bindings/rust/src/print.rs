@@ -1,4 +1,5 @@
-//! Printing into a lent buffer: each call lays text from a place on and tells the place behind it, or `None` where it does not fit.
+//! Printing into a lent buffer: each call lays text from a place on and tells the place behind it, or `None` where it does not fit. What does not fit is not laid; a call that lays
+//! several parts, as lines, leaves those that were laid before the first that does not fit.
 use crate::refusal::Refusal;
 use crate::rows::Counts;
 use crate::sys;
@@ -7,13 +8,17 @@ fn behind(end: usize) -> Option<usize> {
     (end != sys::FULL).then_some(end)
 }
 
-/// The listing of a payload: its first line, and a line a row; the rows go into `rows` as in [`parse_metadata`](crate::parse_metadata).
+/// The listing of a payload: its first line, and a line a row; the rows go into `rows` as in [`parse_metadata`](crate::parse_metadata). It has at most 56 bytes for each row that
+/// `rows` has room for ([`room`](crate::room)), and 56 more. Where it does not fit, the parts that were laid before the first that does not stay.
 ///
 /// ```
 /// let payload = b"STRM\x00\x01\x00\x14SCALs\x02\x00\x01\x00\x01\x00\x00GYROs\x06\x00\x00";
 /// let (mut rows, mut out) = ([0; 64], [0; 64]);
 /// let end = gpmf::list(payload, &mut rows, &mut out, 0).unwrap();
 /// assert_eq!(&out[..end], b"rows 1 headers 5\n8 GYRO SCAL 115 2 1 1\n");
+/// let mut short = [0; 17];
+/// assert_eq!(gpmf::list(payload, &mut rows, &mut short, 0), None);
+/// assert_eq!(&short, b"rows 1 headers 5\n");
 /// ```
 pub fn list(payload: &[u8], rows: &mut [u32], out: &mut [u8], at: usize) -> Option<usize> {
     behind(unsafe { sys::gpmf_list(payload.as_ptr(), payload.len(), rows.as_mut_ptr(), rows.len(), out.as_mut_ptr(), out.len(), at) })
@@ -35,7 +40,8 @@ pub fn put_answer(out: &mut [u8], at: usize, answer: Result<Counts, Refusal>) ->
     behind(unsafe { sys::gpmf_put_answer(out.as_mut_ptr(), out.len(), at, answer) })
 }
 
-/// A line for each of the first `count` rows; the line of the refusal with 5 at 0 alone where `rows` has no room for so many.
+/// A line for each of the first `count` rows; the line of the refusal with 5 at 0 alone where `rows` has no room for so many. Where they do not all fit, what is laid is as
+/// in [`list`].
 ///
 /// ```
 /// let mut out = [0; 32];
@@ -67,8 +73,10 @@ pub struct About {
     pub whole: bool,
 }
 
-/// A packet of a take: its line, its listing, and where it is refused the listing of what stands before the place. Tells the place behind it, and whether the packet
-/// was accepted. The rows of what is listed go into `rows`: of a refused packet those of its front, and with `whole` none.
+/// A packet of a take: its line, its listing, and where it is refused the listing of what stands before the place; with `whole`, nothing of a refused one. Tells the place behind
+/// it, and whether the packet was accepted. The rows of what is listed go into `rows`: of a refused packet those of its front, and with `whole` none, so that `rows` stay as they
+/// were. It has at most 106 bytes more than a listing ([`list`]), so that 56 bytes for each row that `rows` has room for and 162 more are enough; with fewer, what is laid is as
+/// there.
 ///
 /// ```
 /// let mut out = [0; 64];
@@ -76,6 +84,9 @@ pub struct About {
 /// let (end, accepted) = gpmf::put_packet(b"GYROs\x06\x00\x00", about, &mut [], &mut out, 0);
 /// assert_eq!(&out[..end.unwrap()], b"packet 2 at 100 bytes 8\nrows 0 headers 1\n");
 /// assert!(accepted);
+/// let mut short = [0; 24];
+/// assert_eq!(gpmf::put_packet(b"GYROs\x06\x00\x00", about, &mut [], &mut short, 0), (None, true));
+/// assert_eq!(&short, b"packet 2 at 100 bytes 8\n");
 /// ```
 pub fn put_packet(payload: &[u8], about: About, rows: &mut [u32], out: &mut [u8], at: usize) -> (Option<usize>, bool) {
     let About { number, place, whole } = about;
@@ -84,13 +95,15 @@ pub fn put_packet(payload: &[u8], about: About, rows: &mut [u32], out: &mut [u8]
     (behind(taken.end), taken.accepted)
 }
 
-/// A packet of more bytes than are held: its line, and its refusal with 1.
+/// A packet of more bytes than are held: its line, its refusal with 1, and the line of a front without rows; with `whole`, nothing.
 ///
 /// ```
 /// let mut out = [0; 128];
 /// let about = gpmf::About { number: 3, place: 100, whole: false };
 /// let end = gpmf::put_long_packet(about, 2_000_000, &mut out, 0).unwrap();
 /// assert_eq!(&out[..end], b"packet 3 at 100 bytes 2000000\nrefused 1 at 0\nfront rows 0 headers 0\n");
+/// let whole = gpmf::About { whole: true, ..about };
+/// assert_eq!(gpmf::put_long_packet(whole, 2_000_000, &mut [], 0), Some(0));
 /// ```
 pub fn put_long_packet(about: About, bytes: u64, out: &mut [u8], at: usize) -> Option<usize> {
     behind(unsafe { sys::gpmf_put_long_packet(about.number, about.place, bytes, about.whole, out.as_mut_ptr(), out.len(), at) })

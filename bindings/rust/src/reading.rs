@@ -6,6 +6,7 @@ use crate::number::Element;
 use crate::refusal::Refusal;
 use crate::rows::{lookup, parse_metadata, row_at, Counts, Group, Row, MOST_ROWS, ROW_WIDTH};
 use crate::value::{bytes_at, columns_at, element, elements_at, shape_at, text_at, Shape};
+use std::fmt;
 
 /// What a payload is read as: its rows, which lead to its values.
 ///
@@ -18,11 +19,18 @@ use crate::value::{bytes_at, columns_at, element, elements_at, shape_at, text_at
 /// assert_eq!(wet.element(2, 0)?, Element::Unsigned(1));
 /// # Ok::<(), Box<dyn std::error::Error>>(())
 /// ```
-#[derive(Clone, Debug)]
+#[derive(Clone)]
 pub struct Reading<'a> {
     payload: &'a [u8],
     rows: Vec<u32>,
     counts: Counts,
+}
+
+/// Its counts: the bytes and the rows themselves may be a million.
+impl fmt::Debug for Reading<'_> {
+    fn fmt(&self, f: &mut fmt::Formatter<'_>) -> fmt::Result {
+        f.debug_struct("Reading").field("bytes", &self.payload.len()).field("rows", &self.counts.rows).field("headers", &self.counts.headers).finish()
+    }
 }
 
 impl<'a> Reading<'a> {
@@ -155,7 +163,7 @@ impl<'a> Reading<'a> {
         Item { payload: self.payload, row }
     }
 
-    /// The item of a group and tag: of several the last.
+    /// The item of a group and tag: of several the last. [`Tag::Other`] finds no key that has a tag, as MWET has: there take [`Tag::of`].
     ///
     /// ```
     /// use gpmf::{Group, Reading, Tag};
@@ -218,10 +226,17 @@ impl<'a> Reading<'a> {
 /// assert_eq!(gain.element(0, 0)?, gpmf::Element::Signed(-35));
 /// # Ok::<(), Box<dyn std::error::Error>>(())
 /// ```
-#[derive(Clone, Copy, Debug)]
+#[derive(Clone, Copy)]
 pub struct Item<'a> {
     payload: &'a [u8],
     row: Row,
+}
+
+/// Its row, which tells its place and its length, and not the bytes that were read.
+impl fmt::Debug for Item<'_> {
+    fn fmt(&self, f: &mut fmt::Formatter<'_>) -> fmt::Result {
+        f.debug_struct("Item").field("row", &self.row).finish_non_exhaustive()
+    }
 }
 
 impl<'a> Item<'a> {
@@ -236,11 +251,13 @@ impl<'a> Item<'a> {
         bytes_at(self.payload, self.row.place as usize, self.type_place())
     }
 
-    /// The text of a row of its value, without the zeros behind it. Refused with 13 too where the value is no text.
+    /// The text of a row of its value: of one text without the zeros behind it, of several up to the first zero. Refused with 13 too where the value is no text. Each call goes
+    /// through all texts of several, as [`text_at`](crate::text_at).
     ///
     /// ```
-    /// let reading = gpmf::Reading::of(b"UNITc\x03\x00\x02degm\0\0")?;
-    /// assert_eq!(reading.item_of(reading.row(0).unwrap()).text(0)?, b"deg");
+    /// let reading = gpmf::Reading::of(b"UNITc\x03\x00\x02degm\0s")?;
+    /// let units = reading.item_of(reading.row(0).unwrap());
+    /// assert_eq!((units.text(0)?, units.text(1)?), (b"deg".as_slice(), b"m".as_slice()));
     /// # Ok::<(), gpmf::Refusal>(())
     /// ```
     pub fn text(&self, row: usize) -> Result<&'a [u8], Refusal> {
@@ -271,7 +288,7 @@ impl<'a> Item<'a> {
         shape_at(self.payload, self.row.place as usize, self.type_place())
     }
 
-    /// The columns of a row of its value.
+    /// The columns of a row of its value. Each call costs as much as [`Item::element`].
     ///
     /// ```
     /// let reading = gpmf::Reading::of(b"UNITc\x03\x00\x02degm\0\0")?;
@@ -282,7 +299,8 @@ impl<'a> Item<'a> {
         columns_at(self.payload, self.row.place as usize, self.type_place(), row)
     }
 
-    /// The element at a row and a column of its value. Refused with 2, 6, 7, 8, 12 or 13.
+    /// The element at a row and a column of its value. Refused with 2, 6, 7, 8, 12 or 13. Each call goes through the whole TYPE text of a structure, or through all texts of several:
+    /// for all elements take [`Item::elements_at`].
     ///
     /// ```
     /// let reading = gpmf::Reading::of(b"ABCDB\x05\x00\x01abcde")?;

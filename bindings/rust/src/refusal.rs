@@ -44,7 +44,7 @@ impl Refusal {
     pub const LEFT_OVER: u32 = 3;
     /// 4: containers are nested too deep.
     pub const TOO_DEEP: u32 = 4;
-    /// 5: a row has no room.
+    /// 5: a row, or an element, has no room.
     pub const NO_ROOM: u32 = 5;
     /// 6: a value has too few bytes.
     pub const TOO_FEW: u32 = 6;
@@ -56,9 +56,9 @@ impl Refusal {
     pub const BAD_AXES: u32 = 9;
     /// 10: a matrix names no axes.
     pub const BAD_MATRIX: u32 = 10;
-    /// 11: a list of durations is over its limits.
+    /// 11: a list of durations is over its limits, or has a duration that is not finite.
     pub const BAD_DURATIONS: u32 = 11;
-    /// 12: there is no item at the place.
+    /// 12: there is no item at the place, or for a `?` item no TYPE of one text at the place named.
     pub const NO_ITEM: u32 = 12;
     /// 13: the row or the column lies outside the value.
     pub const OUTSIDE: u32 = 13;

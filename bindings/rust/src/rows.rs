@@ -181,7 +181,8 @@ pub fn put_row(out: &mut [u32], n: usize, row: Row) -> bool {
     unsafe { sys::gpmf_put_row(out.as_mut_ptr(), out.len(), n, row.to_sys()) }
 }
 
-/// The index of the last of the first `count` rows of a group and a tag. Refused with 5 where so many rows have no room.
+/// The index of the last of the first `count` rows of a group and a tag; with [`Tag::Other`] of a group and a key, among rows whose own tag is 0. Refused with 5 where so many
+/// rows have no room.
 ///
 /// ```
 /// use gpmf::{lookup, Group, Tag};
@@ -189,6 +190,7 @@ pub fn put_row(out: &mut [u32], n: usize, row: Row) -> bool {
 /// let counts = gpmf::parse_metadata(b"ABCDB\x01\x00\x01a\0\0\0SCALB\x01\x00\x01b", false, &mut rows)?;
 /// assert_eq!(lookup(&rows, counts.rows, Group::CALLER, Tag::Scale)?, Some(1));
 /// assert_eq!(lookup(&rows, counts.rows, Group::CALLER, Tag::Other(*b"ABCD"))?, Some(0));
+/// assert_eq!(lookup(&rows, counts.rows, Group::CALLER, Tag::Other(*b"SCAL"))?, None); // the tag of SCAL is Scale
 /// assert_eq!(lookup(&rows, counts.rows, Group::CALLER, Tag::Data)?, None);
 /// assert!(lookup(&rows, 9, Group::CALLER, Tag::Data).is_err());
 /// # Ok::<(), gpmf::Refusal>(())

@@ -78,6 +78,9 @@ fn type_at(place: Option<usize>) -> usize {
 
 /// The element at a row and a column of the item at a place. Refused with 1, at place 0, or with 2, 6, 7, 8, 12 or 13, at the place asked.
 ///
+/// Each call goes through the whole TYPE text of a structure, or through all texts of several, as [`columns_at`] and [`text_at`] do: for all elements of a value take
+/// [`elements_at`].
+///
 /// Here and in the calls below, a `type_place` of `Some(4294967295)` is none: the library has that number for a TYPE that is not there, and no payload is so long.
 ///
 /// ```
@@ -110,7 +113,7 @@ pub fn shape_at(bytes: &[u8], at: usize, type_place: Option<usize>) -> Result<Sh
     is(a.kind, a.number, a.place, Shape { kind, rows: a.rows, columns: a.columns })
 }
 
-/// The columns of a row: of a text, its bytes. Refused as an element is; with 13 where the row lies outside.
+/// The columns of a row: of a text, its bytes. Refused as an element is; with 13 where the row lies outside. Each call costs as much as [`element`].
 ///
 /// ```
 /// let units = b"UNITc\x03\x00\x02degm\0\0";
@@ -168,11 +171,17 @@ pub fn bytes_at(bytes: &[u8], at: usize, type_place: Option<usize>) -> Result<&[
     part(bytes, unsafe { sys::gpmf_bytes_at(bytes.as_ptr(), bytes.len(), at, type_at(type_place)) })
 }
 
-/// The text of a row of the item at a place, as a part of the bytes, without the zeros behind it. Refused as its value is; with 13 too where the value is no text.
+/// The text of a row of the item at a place, as a part of the bytes: of one text without the zeros behind it, of several up to the first zero. Refused as [`columns_at`]; with 13
+/// too where the value is no text. Each call goes through all texts of several: for all of them see by [`shape_at`] that they are readable, and take [`bytes_at`] in runs of the
+/// item's size, each up to its [`utf8_len`](crate::utf8_len).
 ///
 /// ```
-/// let units = b"UNITc\x03\x00\x02degm\0\0";
-/// assert_eq!(gpmf::text_at(units, 0, None, 1)?, b"m");
+/// let name = b"STNMc\x01\x00\x06a\0b\0\0\0";
+/// assert_eq!(gpmf::text_at(name, 0, None, 0)?, b"a\0b");
+/// let units = b"UNITc\x03\x00\x02a\0bm\0\0";
+/// assert_eq!(gpmf::text_at(units, 0, None, 0)?, b"a");
+/// let all: Vec<&[u8]> = gpmf::bytes_at(units, 0, None)?.chunks(3).map(|text| &text[..gpmf::utf8_len(text)]).collect();
+/// assert_eq!(all, [b"a", b"m"]);
 /// assert_eq!(gpmf::text_at(units, 0, None, 2).unwrap_err().number, gpmf::Refusal::OUTSIDE);
 /// # Ok::<(), gpmf::Refusal>(())
 /// ```

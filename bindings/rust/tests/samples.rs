@@ -49,6 +49,18 @@ fn takes_are_printed_as_stored() {
     }
 }
 
+/// 56 bytes for each row that there is room for, and 162 more, hold every packet, with the largest numbers in its line.
+#[test]
+fn the_room_that_a_packet_needs_is_known() {
+    let file = sample("damaged.raw");
+    for packet in gpmf::packets(&file) {
+        let rows = packet.clone().front().0.len();
+        let about = gpmf::About { number: u64::MAX, place: u64::MAX, whole: false };
+        let (end, accepted) = gpmf::put_packet(packet.payload(), about, &mut vec![0; 8 * rows], &mut vec![0; 56 * rows + 162], 0);
+        assert_eq!((end.is_some(), accepted), (true, packet.reading().is_ok()));
+    }
+}
+
 fn unsigned(element: Element) -> u64 {
     match element {
         Element::Unsigned(n) => n,
@@ -111,6 +123,21 @@ fn a_refused_packet_has_a_front() {
     let mut rows = [7; 512];
     assert!(gpmf::parse_metadata(fifth.payload(), false, &mut rows).is_err());
     assert_eq!(rows, [7; 512]);
+}
+
+/// What holds bytes or rows tells how many there are, and not the bytes and rows themselves.
+#[test]
+fn what_is_told_for_debugging_is_short() {
+    let file = sample("damaged.raw");
+    let mut packets = gpmf::packets(&file);
+    let first = packets.next().unwrap();
+    assert_eq!(format!("{first:?}"), "Packet { range: 8..1220, reading: Ok(Reading { bytes: 1212, rows: 57, headers: 125 }) }");
+    assert_eq!(format!("{packets:?}"), "Packets { bytes: 5906, at: 1220 }");
+    assert_eq!(format!("{:?}", packets.next().unwrap()), "Packet { range: 1228..2430, reading: Err(Refusal { number: 2, place: 984 }) }");
+    let reading = first.reading().unwrap();
+    let wet = reading.item(Group::of(*b"MWET"), Tag::Data).unwrap();
+    assert_eq!(format!("{reading:?}"), "Reading { bytes: 1212, rows: 57, headers: 125 }");
+    assert_eq!(format!("{wet:?}"), format!("Item {{ row: {:?}, .. }}", wet.row()));
 }
 
 /// Every packet of a file that is read in windows of a size, each begun where the one before said.
