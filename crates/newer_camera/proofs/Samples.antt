@@ -2,7 +2,6 @@
 -- definitions. Assumes nothing.
 use Prim.Native.Nat.{ℕ, _≤_}
 use Prim.Native.Char.{code}
-use Prim.Native.String.{String}
 use mathlib.Core.Path.{_≡_, refl}
 use mathlib.Core.Bool.{true, false}
 use mathlib.Core.List.{List, [], _∷_, _++_, map}
@@ -23,17 +22,11 @@ use Rattle.reading.specs.Last.{lastItem}
 use Rattle.reading.specs.Record.{numbers, noPlace}
 use Rattle.reading.specs.Walk.{roleOf, itemOutcome, walk, readingOf}
 use Rattle.reading.specs.Answer.{Answer, rows, refusal, answer}
+use Rattle.reading.proofs.Samples.{header, row}
 use Rattle.newer_camera.specs.PutIn.{IsNew, IsOld, Matches, PutIn, nothing, new, behind, inside}
 use Rattle.newer_camera.specs.OtherBytes.{OtherBytes, in-nothing, in-new, behind-old, inside-old}
 
 -- ---- items
-
-abbrev header : String → ℕ → ℕ → ℕ → KLV
-header k letter size repeat = record { key = key k; «data_type» = letter; size = size; repeat = repeat }
-
--- a row, in the order of document 01
-abbrev row : ℕ → ℕ → ℕ → ℕ → ℕ → ℕ → ℕ → ℕ → List ℕ
-row place kind group tag k shape type depth = place ∷ kind ∷ group ∷ tag ∷ k ∷ shape ∷ type ∷ depth ∷ []
 
 -- the row of a new item of three bytes
 abbrev another : ℕ → ℕ → ℕ → ℕ → List ℕ
