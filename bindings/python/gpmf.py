@@ -415,6 +415,8 @@ def _flat(memory: Bytes) -> memoryview:
         raise _unfit(view, TypeError(f"bytes are wanted, not numbers of {view.itemsize} bytes"))
     if not view.c_contiguous:
         raise _unfit(view, ValueError("memory without gaps is wanted"))
+    if view.ndim != 1 and view.nbytes == 0:
+        return memoryview(bytearray())  # what has a 0 among two dimensions cannot be cast
     return view.cast("B")
 
 

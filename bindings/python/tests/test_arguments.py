@@ -1,5 +1,6 @@
 """No argument reaches the library that it cannot take: wrong ones raise before it is called, and the largest that it takes are answered."""
 import array
+import ctypes
 import inspect
 import io
 import types
@@ -146,6 +147,7 @@ class Arguments(unittest.TestCase):
         out = bytearray(8)
         self.assertEqual((gpmf.put_bytes(memoryview(out).cast("B", (2, 4)), 1, b"abcdef"), out), (7, b"\0abcdef\0"))
         self.assertRaises(ValueError, gpmf.rows, memoryview(bytes(32)).cast("B", (8, 4))[::2])
+        self.assertIsNone(gpmf.find_devc((ctypes.c_ubyte * 4 * 0)()))  # no bytes, in two dimensions
 
     def test_what_is_written_overlaps_nothing(self):
         rows, out = numbers(), bytearray(256)

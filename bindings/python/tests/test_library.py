@@ -103,6 +103,17 @@ class Usage(unittest.TestCase):
                 said = run(MODULE.parent, LIBRARY, "mixer.py", str(SAMPLES / f"{name}.raw"))
                 self.assertEqual((said.stdout, said.stderr, said.returncode), (stored(f"{name}.table"), "", 0))
 
+    def test_the_example_prints_the_tables_of_the_hard_takes(self):
+        """As the examples in C and Rust do, with the same takes."""
+        with tempfile.TemporaryDirectory() as folder:
+            subprocess.run(["sh", str(ROOT / "bindings" / "c" / "takes"), folder], check=True)
+            tables = sorted(pathlib.Path(folder).glob("*.table"))
+            self.assertEqual([table.stem for table in tables], ["extremes", "forms", "long_type"])
+            for table in tables:
+                with self.subTest(table.stem):
+                    said = run(MODULE.parent, LIBRARY, "mixer.py", str(table.with_suffix(".raw")))
+                    self.assertEqual((said.stdout, said.stderr, said.returncode), (table.read_text(), "", 0))
+
     def test_the_example_asks_for_each_value_once(self):
         """MWET, AALP and SCAL: an element by itself would go through a whole TYPE text, or through all texts."""
         for packet in gpmf.packets(raw("take")):
