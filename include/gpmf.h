@@ -8,9 +8,8 @@
  *   - a bool is false or true.
  *
  * An answer begins with its kind: GPMF_IS with its values, GPMF_NOTHING, GPMF_MORE, or GPMF_REFUSED with a refusal's number and place. What an
- * answer does not have is 0. A place is counted in bytes from the start of the payload or file. A refused call leaves what was lent as it was, with one exception:
- * gpmf_put_packet without `whole` lays the refusal and what stands before its place, and so overwrites `rows` by those of that front; with `whole` they stay. A refusal that is
- * printed, as by gpmf_list, gpmf_put_rows and gpmf_put_packet, is laid into `out`.
+ * answer does not have is 0. A place is counted in bytes from the start of the payload or file. A refused call leaves what was lent as it was, but that a call which
+ * prints lays the refusal into `out`, and that gpmf_put_packet without `whole` lays what stands before its place too, and so overwrites `rows` by those of that front.
  *
  * A payload is what stands behind the 8 bytes of a DEVC's header, in a raw file or in a sample of a video's metadata track: items one behind the other.
  *

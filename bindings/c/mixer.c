@@ -100,6 +100,7 @@ static bool element(const value *of, size_t row, size_t column, double *number) 
 /* What the columns of a group's readings are divided by: SCAL has one number for all columns, or one for each; without SCAL it is 1, and 0 where it cannot be read. */
 static void scales(const reading *from, uint32_t group, double divisors[2]) {
     value scal;
+    memset(&scal, 0, sizeof scal);
     bool none = gpmf_lookup(from->rows, NUMBERS, from->count, GPMF_GROUP_BY_KEY, group, GPMF_TAG_SCALE, 0).kind == GPMF_NOTHING;
     bool there = find(from, group, GPMF_TAG_SCALE, &scal) && scal.columns != 0;
     for (size_t column = 0; column < 2; column++) {
