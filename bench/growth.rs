@@ -63,8 +63,8 @@ fn print_packets(all: &Take) {
 
 fn print_items() {
     println!(
-        "\n**From 64 to 4,096 items** of 30 numbers, one behind the other: best rounds, in ns for an item. A payload of more than 128 rows is walked up to row 129 and then \
-         read in two passes; one that is refused, here since its last byte is not there, is walked twice."
+        "\n**From 64 to 4,096 items** of 30 numbers, one behind the other: best rounds, in ns for an item. A payload of more than 128 rows is walked up to row 129, and then \
+         checked and written; one of fewer that is refused, here since its last byte is not there, is walked once."
     );
     head(&["What", "64 items", "128", "129", "4,096", "4,096 over 64"]);
     let payloads = ITEMS.map(items);

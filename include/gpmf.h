@@ -13,8 +13,8 @@
  *
  * A payload is what stands behind the 8 bytes of a DEVC's header, in a raw file or in a sample of a video's metadata track: items one behind the other.
  *
- * Calls may run in several threads at once, on memory that no other thread writes meanwhile. A call that reads a payload takes 4 KB of the stack for rows of its own and a
- * frame for each of at most 17 levels, as compiled today some 9 KB in all; every other call takes less. */
+ * Calls may run in several threads at once, on memory that no other thread writes meanwhile. A call that reads a payload takes at most 16 KB of the stack: 4 KB for rows of
+ * its own and a frame for each of at most 17 levels, as compiled today some 9 KB in all (oracle/before.sh measures it); every other call takes less. */
 #ifndef GPMF_H
 #define GPMF_H
 
@@ -237,7 +237,7 @@ typedef struct gpmf_row_answer {
     gpmf_row row;
 } gpmf_row_answer;
 
-/* What a payload is read as: so many rows, and so many headers read. */
+/* What a payload is read as: so many rows, and so many headers, one for each item: containers, empty items and TYPE items too. */
 typedef struct gpmf_metadata_answer {
     uint32_t kind;
     uint32_t number;

@@ -4,8 +4,8 @@
 Makes COUNT payloads with groups named by containers and puts new items in front of items that the walk reaches, at any depth. Each payload is read
 three times: as it was, with the new items, and with other payload bytes in the new items. The rows that `./gpmf take` lists must be, one by one and
 in order: every old row with its group, key, type, size, repeat and depth, its bytes at its new place; and one for each new item with a payload, in the
-group of its level; and the same rows again with the other bytes. The headers must be more by one for each new outermost item and two for each
-below. Where new keys are unlike all old ones, `./gpmf replay_rows` and `./gpmf replay_values` must also give every old item as it was, with its value. Other
+group of its level; and the same rows again with the other bytes. The headers must be more by one for each new item.
+Where new keys are unlike all old ones, `./gpmf replay_rows` and `./gpmf replay_values` must also give every old item as it was, with its value. Other
 commands than ./gpmf are given by TAKE, REPLAY_ROWS and REPLAY_VALUES in the environment. Exit 1 at a difference, with the first three."""
 import os
 import random
@@ -142,8 +142,7 @@ class Meeting:
                     return False
             if row != wanted:
                 return False
-        more = sum(1 if new.group == "-" else 2 for new in self.news)
-        return next(old, None) is None and headers(listed[1]) == headers(listed[0]) + more
+        return next(old, None) is None and headers(listed[1]) == headers(listed[0]) + len(self.news)
 
 
 def bytes_at(payload, place, row):

@@ -388,7 +388,7 @@ def walks(draw, times):
 
 
 def many_rows(draw, times):
-    """More rows than the quick pass of `metadata` makes apart, 128, in streams: the walk seeks the last item of each and names its group. Streams round 127 to 130 rows
+    """More rows than the quick pass of `metadata` makes apart, 128, in streams: the last item of each names its group. Streams round 127 to 130 rows
     and more; one in another, two in a third; the last item a row, empty, or a stream; bytes left over behind it, and an item that runs past the end; trees of streams."""
     keys = [key.encode() for key in GROUP_KEYS + OTHER_TAG_KEYS + STRANGE_KEYS]
     def readings(count):

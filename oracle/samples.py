@@ -1,6 +1,7 @@
 #!/usr/bin/env python3
-"""samples.py: asks the built oracle of every packet in samples/, of what stands before each refusal, and of the samples as payloads. Its headers, its items with
-their bytes and its refusals must be those of take_model.py, from which the stored prints come, and every value must be readable. Exit 1 at a difference."""
+"""samples.py: asks the built oracle of every packet in samples/, of what stands before each refusal, and of the samples as payloads.
+At how many places it reads a header, its items with their bytes and its refusals must be those of take_model.py, from
+which the stored prints come, and every value must be readable. Exit 1 at a difference."""
 import pathlib
 import subprocess
 import sys

@@ -12,6 +12,7 @@
 #include <stdlib.h>
 #include <string.h>
 #include <sys/mman.h>
+#include <ucontext.h>
 #include <unistd.h>
 
 /* ---- layouts: each field where the record of the library has it */
@@ -350,7 +351,7 @@ static void the_reading(void) {
     uint32_t *untouched = lend(LENT);
     packet = load("packet.raw");
     rows = lend(LENT);
-    CHECK(rows_are(gpmf_parse_metadata(packet.bytes, packet.size, false, rows, LENT), ROWS, 125));
+    CHECK(rows_are(gpmf_parse_metadata(packet.bytes, packet.size, false, rows, LENT), ROWS, 68));
     CHECK(kept(rows, ROWS * 8, LENT) && !kept(rows, ROWS * 8 - 1, LENT));
 
     /* 11 outermost items, 57 within them: a header for each when forced, and two for those within when not */
@@ -383,16 +384,26 @@ static void small_payloads(void) {
     CHECK(kept(numbers, 8, 16));
 }
 
-/* Containers round one item, each of one repeat a byte. */
-static gpmf_metadata_answer nested(uint8_t containers, uint32_t *numbers) {
-    uint8_t bytes[256];
+/* Containers round one item, each of one repeat a byte, with some bytes left over in the outermost one; returns the payload's size. */
+static size_t lay_nested(uint8_t containers, uint8_t left, uint8_t bytes[256]) {
     size_t size = 0;
     for (uint8_t i = 0; i < containers; i++, size += 8) {
         memcpy(bytes + size, "NEST\x00\x01\x00", 7);
-        bytes[size + 7] = (uint8_t)((containers - 1 - i) * 8 + 12);
+        bytes[size + 7] = (uint8_t)((containers - 1 - i) * 8 + 12 + (i == 0 ? left : 0));
     }
-    memcpy(bytes + size, "ABCDB\x04\x00\x01" "1234", 12);
-    return gpmf_parse_metadata(bytes, size + 12, false, numbers, 8);
+    memcpy(bytes + size, "ABCDB\x04\x00\x01" "1234\0\0\0\0\0\0\0", 19);
+    return size + 12 + left;
+}
+
+static gpmf_metadata_answer nested(uint8_t containers, uint32_t *numbers) {
+    uint8_t bytes[256];
+    return gpmf_parse_metadata(bytes, lay_nested(containers, 0, bytes), false, numbers, 8);
+}
+
+/* The same with three bytes left over, forced or not, and with room for so many numbers. */
+static gpmf_metadata_answer left_over(uint8_t containers, bool forced, uint32_t *numbers, size_t lent) {
+    uint8_t bytes[256];
+    return gpmf_parse_metadata(bytes, lay_nested(containers, 3, bytes), forced, numbers, lent);
 }
 
 static void deep_payloads(void) {
@@ -400,8 +411,57 @@ static void deep_payloads(void) {
     uint32_t key = GPMF_KEY('A', 'B', 'C', 'D');
     CHECK(rows_refused(nested(17, numbers), GPMF_TOO_DEEP, 0));
     CHECK(kept(numbers, 0, 8));
-    CHECK(rows_are(nested(16, numbers), 1, 33));
+    CHECK(rows_are(nested(16, numbers), 1, 17));
     CHECK(row_is(gpmf_row_at(numbers, 8, 0), row(128, 1, key, 0, key, shape_of('B', 4, 1), GPMF_NO_TYPE, 16)));
+}
+
+/* gpmf.h says that a reading takes at most 16 KB of the stack. So it is called on a stack of its own, of 16 KB and one page for the frames of this program, with a page that
+ * may not be touched below it: 16 containers, the deepest that is accepted, 17, which are refused, and the same with bytes left over. */
+static struct {
+    ucontext_t home;
+    ucontext_t away;
+    uint8_t bytes[256];
+    size_t size;
+    uint32_t numbers[8];
+    gpmf_metadata_answer answer;
+    bool forced;
+} small;
+
+static void on_a_small_stack(void) { small.answer = gpmf_parse_metadata(small.bytes, small.size, small.forced, small.numbers, 8); }
+
+static gpmf_metadata_answer read_on_a_small_stack(uint8_t containers, uint8_t left, bool forced) {
+    size_t page = (size_t)sysconf(_SC_PAGESIZE);
+    size_t size = 16 * 1024 + page;
+    uint8_t *stack = (uint8_t *)mmap(NULL, size + page, PROT_READ | PROT_WRITE, MAP_PRIVATE | MAP_ANONYMOUS, -1, 0);
+    if (stack == MAP_FAILED || mprotect(stack, page, PROT_NONE) != 0 || getcontext(&small.away) != 0) abort();
+    small.size = lay_nested(containers, left, small.bytes);
+    small.forced = forced;
+    small.away.uc_stack.ss_sp = stack + page;
+    small.away.uc_stack.ss_size = size;
+    small.away.uc_link = &small.home;
+    makecontext(&small.away, on_a_small_stack, 0);
+    if (swapcontext(&small.home, &small.away) != 0) abort();
+    munmap(stack, size + page);
+    return small.answer;
+}
+
+static void small_stacks(void) {
+#if !defined(__SANITIZE_ADDRESS__) /* which does not know of a stack that is made here */
+    CHECK(rows_are(read_on_a_small_stack(16, 0, false), 1, 17) && rows_are(read_on_a_small_stack(16, 0, true), 1, 17));
+    CHECK(rows_refused(read_on_a_small_stack(17, 0, false), GPMF_TOO_DEEP, 0) && rows_refused(read_on_a_small_stack(17, 0, true), GPMF_TOO_DEEP, 0));
+    CHECK(rows_refused(read_on_a_small_stack(18, 3, false), GPMF_LEFT_OVER, 0));
+#else
+    (void)read_on_a_small_stack;
+#endif
+}
+
+/* A refusal inside waits for the chains of all containers around it. Where the group is forced there is no chain. */
+static void waiting_refusals(void) {
+    uint32_t *numbers = lend(8);
+    CHECK(rows_refused(left_over(18, false, numbers, 8), GPMF_LEFT_OVER, 0) && rows_refused(left_over(18, true, numbers, 8), GPMF_TOO_DEEP, 0));
+    CHECK(rows_refused(left_over(2, false, numbers, 7), GPMF_LEFT_OVER, 0) && rows_refused(left_over(2, true, numbers, 7), GPMF_NO_ROOM, 0));
+    CHECK(kept(numbers, 0, 8));
+    CHECK(rows_are(left_over(2, true, numbers, 8), 1, 3));
 }
 
 static void the_rows(void) {
@@ -798,7 +858,7 @@ static void readings_of_packets(void) {
     CHECK(packet_not_read(gpmf_next_metadata(gpmf_packets_new(0), NONE, true, NULL, 0), GPMF_NOTHING, 0, 0, 0, 0));
     CHECK(kept(numbers, 0, LENT));
     a = gpmf_next_metadata(gpmf_packets_new(0), damaged.bytes, damaged.size, false, numbers, LENT);
-    CHECK(packet_read(a, 8, 1220, 1220) && rows_are(a.metadata, 57, 125));
+    CHECK(packet_read(a, 8, 1220, 1220) && rows_are(a.metadata, 57, 68));
     CHECK(row_is(gpmf_row_at(numbers, LENT, 41), row(856, 1, MWET, 1, MWET, shape_of('B', 3, 4), GPMF_NO_TYPE, 1)) && kept(numbers, 57 * 8, LENT));
 }
 
@@ -850,15 +910,15 @@ static void listings(void) {
     CHECK(memcmp(numbers, rows, LENT * sizeof *rows) == 0 && kept_bytes(out, listing.size, 4096));
     memset(out, 0xA5, 4096);
     CHECK(gpmf_list(packet.bytes, packet.size, numbers, LENT, out, listing.size - 1, 0) == GPMF_FULL);
-    CHECK(lies(out, 0, "rows 58 headers 125\n0 - DVID") && lies(out, listing.size - 51, "1144 GPS5 SCAL 108 4 5 1\n") && kept_bytes(out, listing.size - 26, 4096));
+    CHECK(lies(out, 0, "rows 58 headers 68\n0 - DVID") && lies(out, listing.size - 51, "1144 GPS5 SCAL 108 4 5 1\n") && kept_bytes(out, listing.size - 26, 4096));
 }
 
 static void lines(void) {
     uint8_t *out = buffer(64);
     gpmf_metadata_answer answer = gpmf_parse_metadata(packet.bytes, packet.size, false, rows, LENT);
-    CHECK(gpmf_put_answer(out, 64, 0, answer) == 20 && lies(out, 0, "rows 58 headers 125\n\xa5"));
+    CHECK(gpmf_put_answer(out, 64, 0, answer) == 19 && lies(out, 0, "rows 58 headers 68\n\xa5"));
     answer = gpmf_parse_metadata(TEXT("ABCDB\x06\x00\x01"), false, NULL, 0);
-    CHECK(gpmf_put_answer(out, 64, 20, answer) == 35 && lies(out, 20, "refused 2 at 0\n\xa5"));
+    CHECK(gpmf_put_answer(out, 64, 19, answer) == 34 && lies(out, 19, "refused 2 at 0\n\xa5"));
     CHECK(gpmf_put_answer(out, 64, 50, answer) == GPMF_FULL && kept_bytes(out, 50, 64) && gpmf_put_answer(NONE, 0, answer) == GPMF_FULL);
     CHECK(gpmf_put_rows(out, 64, 1, rows, LENT, 2) == 38 && lies(out, 1, "0 - DVID 76 4 1 0\n12 - DVNM 99 1 6 0\n\xa5"));
     CHECK(gpmf_put_rows(out, 64, 40, NONE, 5) == 55 && lies(out, 40, "refused 5 at 0\n\xa5") && gpmf_put_rows(out, 64, 60, NONE, 0) == 60);
@@ -927,6 +987,8 @@ int main(int count, char **words) {
     the_reading();
     small_payloads();
     deep_payloads();
+    waiting_refusals();
+    small_stacks();
     the_rows();
     lookups();
     last_items();

@@ -631,7 +631,7 @@ def _item_or_none(answer: gpmf_item_answer) -> Optional[Item]:
 
 
 class Reading(Sequence[Row]):
-    """What a payload is read as: its rows, in order, and how many headers were read."""
+    """What a payload is read as: its rows, in order, and how many headers were read, one for each item."""
 
     def __init__(self, payload: Bytes, numbers: Numbers, count: int, headers: int) -> None:
         self.payload = payload
@@ -716,7 +716,7 @@ def rows(payload: Bytes, forced: bool = False, room: int = MOST_ROWS) -> Reading
 
 
 def parse_metadata(payload: Bytes, forced: bool, rows: Numbers) -> Tuple[int, int]:
-    """The counts of rows and headers of a payload, whose rows go into lent numbers, eight each. Refused with 1 to 5, and then the numbers stay as they were."""
+    """The counts of rows and headers (one for each item) of a payload, whose rows go into lent numbers, eight each. Refused with 1 to 5, and then the numbers stay as they were."""
     answer = _call("gpmf_parse_metadata", _bytes(payload), _flag(forced), _numbers(rows, written=True))
     _is(answer)
     return answer.rows, answer.headers

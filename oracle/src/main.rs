@@ -136,16 +136,15 @@ fn parsed(payload: &[u8], forced: bool) -> std::io::Result<GroupedTagMap> {
     GoPro::parse_metadata(payload, GroupId::Default, forced, &InputOptions::default())
 }
 
-/// What a walk gives: the map, the headers that were read, and all that was put in, in its order.
-struct Walked { map: GroupedTagMap, headers: u64, items: Vec<TagDescription> }
+/// What a walk gives: the map, at how many places it read a header, and all that was put in, in its order.
+struct Walked { map: GroupedTagMap, headers: usize, items: Vec<TagDescription> }
 /// FORCED HEX: the walk of these, where they are such words; none where the Rust refuses it.
 fn walked(asked: &[&str]) -> Option<Option<Walked>> {
     let (forced, payload) = match asked { ["0", p] => (false, bytes(p)?), ["1", p] => (true, bytes(p)?), _ => return None };
-    let before = byteorder::u16_reads();
     begin_list();
-    let map = parsed(&payload, forced);
-    let (headers, items) = (byteorder::u16_reads() - before, end_list());
-    Some(map.ok().map(|map| Walked { map, headers, items }))
+    let (map, headers) = byteorder::headers_of(|| parsed(&payload, forced));
+    let items = end_list();
+    Some(map.ok().map(|map| Walked { map, headers: headers.places, items }))
 }
 fn ok_or_err(answer: Option<String>) -> Option<String> { Some(answer.unwrap_or("err".into())) }
 
@@ -331,13 +330,13 @@ fn cuts(asked: &[&str]) -> Option<String> {
     Some(format!("ok{}", probe::cuts(&bytes(file)?).iter().map(|(a, b)| format!(" {a}-{b}")).collect::<String>()))
 }
 
-/// packets HEX: of each packet the headers read, or `err`
+/// packets HEX: of each packet at how many places a header was read, or `err`
 fn packets(asked: &[&str]) -> Option<String> {
     let [file] = asked else { return None };
     let file = bytes(file)?;
     let headers = |(a, b): &(usize, usize)| {
-        let before = byteorder::u16_reads();
-        parsed(&file[*a..*b], false).map_or(" err".into(), |_| format!(" {}", byteorder::u16_reads() - before))
+        let (map, headers) = byteorder::headers_of(|| parsed(&file[*a..*b], false));
+        map.map_or(" err".into(), |_| format!(" {}", headers.places))
     };
     Some(format!("ok{}", probe::cuts(&file).iter().map(headers).collect::<String>()))
 }

@@ -35,7 +35,8 @@ class Rows(Refusing):
         self.lent = array.array("I", bytes(4 * 8 * 3))
 
     def test_parse_metadata(self):
-        self.assertEqual(gpmf.parse_metadata(CASE_12, False, self.lent), (1, 5))
+        self.assertEqual(gpmf.parse_metadata(CASE_12, False, self.lent), (1, 3))
+        self.assertEqual(gpmf.parse_metadata(CASE_12, True, self.lent[:]), (1, 3))
         self.assertEqual(list(self.lent[:8]), [8, 1, gpmf.key_number("GYRO"), 4, gpmf.key_number("SCAL"), ord("s") << 24 | 2 << 16 | 1, gpmf.NO_TYPE, 1])
         self.refused(5, 0, gpmf.parse_metadata, CASE_12, False, self.lent[:7])
         self.refused(1, 0, gpmf.rows, bytes(gpmf.MOST_BYTES + 1))
@@ -45,6 +46,17 @@ class Rows(Refusing):
             deep = item("STRM", "\0", 1, len(deep), deep)
         self.refused(4, 0, gpmf.rows, deep)
         self.assertEqual(gpmf.rows(deep[8:])[0].depth, 16)
+
+    def test_refusals_wait_for_the_chain(self):
+        """A refusal inside waits for the chains of all containers around it; where the group is forced there is no chain."""
+        row = item("ABCD", "B", 1, 1, b"\1")
+        deep = row
+        for _ in range(17):
+            deep = item("STRM", "\0", 1, len(deep), deep)
+        for inside, number in ((deep, 4), (row * 4, 5)):
+            around = item("DEVC", "\0", 1, len(inside) + 3, inside + b"\0\0\0")
+            self.refused(3, 0, gpmf.parse_metadata, around, False, self.lent)
+            self.refused(number, 0, gpmf.parse_metadata, around, True, self.lent)
 
     def test_rows_in_lent_numbers(self):
         self.assertEqual([gpmf.room(numbers) for numbers in (0, 7, 8, 64, 10**9)], [0, 0, 1, 8, 4096])
@@ -255,7 +267,7 @@ class Items(Refusing):
         self.assertEqual(gpmf.packets_next_in(file[:16], 0, False), gpmf.Cut(10, 16, 16))
         self.assertIsNone(gpmf.packets_next_in(b"", 0, False))
         lent = array.array("I", bytes(32))
-        self.assertEqual(gpmf.next_metadata(b"DEVC1234" + CASE_12, 0, False, lent), (8, 36, 36, 1, 5, None))
+        self.assertEqual(gpmf.next_metadata(b"DEVC1234" + CASE_12, 0, False, lent), (8, 36, 36, 1, 3, None))
         self.assertEqual(lent[0], 8)
         self.assertIsNone(gpmf.next_metadata(b"", 0, False, lent))
         self.assertEqual(gpmf.next_metadata_in(b"DEVC1234" + CASE_12, 0, True, False, lent), gpmf.More(0))
@@ -327,11 +339,11 @@ class Printing(Refusing):
     def test_lines_follow_each_other(self):
         out, at = bytearray(200), 0
         for call, words in (
-            (gpmf.put_answer, ((1, 5),)), (gpmf.put_answer, (gpmf.Refusal(2, 984),)), (gpmf.put, (ord("a"),)), (gpmf.put_bytes, (b"bc ",)),
+            (gpmf.put_answer, ((1, 3),)), (gpmf.put_answer, (gpmf.Refusal(2, 984),)), (gpmf.put, (ord("a"),)), (gpmf.put_bytes, (b"bc ",)),
             (gpmf.put_decimal, (2**64 - 1,)), (gpmf.put, (10,)), (gpmf.put_hex, (0xABCDEF, 4)), (gpmf.put_signed, (-(2**63),)), (gpmf.put_totals, (3, 2, 1)),
         ):
             at = call(out, at, *words)
-        self.assertEqual(out[:at], b"rows 1 headers 5\nrefused 2 at 984\nabc 18446744073709551615\ncdef-9223372036854775808packets 3 read 2 refused 1\n")
+        self.assertEqual(out[:at], b"rows 1 headers 3\nrefused 2 at 984\nabc 18446744073709551615\ncdef-9223372036854775808packets 3 read 2 refused 1\n")
 
     def test_what_does_not_fit_is_not_laid(self):
         out = bytearray(5)
@@ -340,7 +352,7 @@ class Printing(Refusing):
         self.assertEqual(gpmf.put_hex(out, 0, 1, 2**64 - 1), gpmf.FULL)
 
     def test_listings(self):
-        text = "rows 1 headers 5\n8 GYRO SCAL 115 2 1 1\n"
+        text = "rows 1 headers 3\n8 GYRO SCAL 115 2 1 1\n"
         self.assertEqual((gpmf.listing(CASE_12), gpmf.listing(CASE_12, 0)), (text, "refused 5 at 0\n"))
         out, lent = bytearray(200), array.array("I", bytes(32))
         end = gpmf.put_listing(CASE_12, lent, out, 10)
@@ -348,7 +360,7 @@ class Printing(Refusing):
         self.assertEqual((gpmf.put_rows(out, 0, lent, 1), out[:22]), (22, b"8 GYRO SCAL 115 2 1 1\n"))
         self.assertEqual((gpmf.put_rows(out, 0, lent, 2), out[:15]), (15, b"refused 5 at 0\n"))
         short = bytearray(30)
-        self.assertEqual((gpmf.put_listing(CASE_12, lent, short, 0), short), (gpmf.FULL, b"rows 1 headers 5\n".ljust(30, b"\0")))
+        self.assertEqual((gpmf.put_listing(CASE_12, lent, short, 0), short), (gpmf.FULL, b"rows 1 headers 3\n".ljust(30, b"\0")))
 
     def test_a_room_is_any_whole_number(self):
         class Sixty:

@@ -135,7 +135,7 @@ impl PacketCursor {
     /// let file = std::fs::read("../../samples/take.raw")?;
     /// let mut rows = [0; 512];
     /// match PacketCursor::new(0).next_metadata_in(&file[..2000], true, false, &mut rows) {
-    ///     InWindow::Packet(range, counts, rest) => assert_eq!((range, counts?.headers, rest.at()), (8..1220, 125, 1220)),
+    ///     InWindow::Packet(range, counts, rest) => assert_eq!((range, counts?.headers, rest.at()), (8..1220, 68, 1220)),
     ///     other => panic!("{other:?}"),
     /// }
     /// # Ok::<(), Box<dyn std::error::Error>>(())

@@ -15,10 +15,10 @@ fn behind(end: usize) -> Option<usize> {
 /// let payload = b"STRM\x00\x01\x00\x14SCALs\x02\x00\x01\x00\x01\x00\x00GYROs\x06\x00\x00";
 /// let (mut rows, mut out) = ([0; 64], [0; 64]);
 /// let end = gpmf::list(payload, &mut rows, &mut out, 0).unwrap();
-/// assert_eq!(&out[..end], b"rows 1 headers 5\n8 GYRO SCAL 115 2 1 1\n");
+/// assert_eq!(&out[..end], b"rows 1 headers 3\n8 GYRO SCAL 115 2 1 1\n");
 /// let mut short = [0; 17];
 /// assert_eq!(gpmf::list(payload, &mut rows, &mut short, 0), None);
-/// assert_eq!(&short, b"rows 1 headers 5\n");
+/// assert_eq!(&short, b"rows 1 headers 3\n");
 /// ```
 pub fn list(payload: &[u8], rows: &mut [u32], out: &mut [u8], at: usize) -> Option<usize> {
     behind(unsafe { sys::gpmf_list(payload.as_ptr(), payload.len(), rows.as_mut_ptr(), rows.len(), out.as_mut_ptr(), out.len(), at) })

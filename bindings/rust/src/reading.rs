@@ -103,7 +103,7 @@ impl<'a> Reading<'a> {
         self.len() == 0
     }
 
-    /// How many headers were read.
+    /// How many headers were read: one for each item, containers, empty items and TYPE items too.
     ///
     /// ```
     /// assert_eq!(gpmf::Reading::of(b"GYROs\x06\x00\x00")?.headers(), 1);

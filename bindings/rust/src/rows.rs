@@ -114,7 +114,7 @@ impl Row {
     }
 }
 
-/// How many rows a reading has, and how many headers were read for it.
+/// How many rows a reading has, and how many headers were read for it: one for each item.
 ///
 /// ```
 /// let counts = gpmf::parse_metadata(b"GYROs\x06\x00\x00", false, &mut [])?;
@@ -125,7 +125,7 @@ impl Row {
 pub struct Counts {
     /// The rows.
     pub rows: usize,
-    /// The headers read.
+    /// The headers read: one for each item, containers, empty items and TYPE items too.
     pub headers: usize,
 }
 

@@ -118,7 +118,7 @@ fn a_refused_packet_has_a_front() {
     let fifth = gpmf::packets(&file).nth(4).unwrap();
     assert_eq!(fifth.reading().unwrap_err(), Refusal { number: Refusal::PAST_END, place: 892 });
     let (front, _) = Reading::front(fifth.payload());
-    assert_eq!((front.len(), front.headers()), (43, 93));
+    assert_eq!((front.len(), front.headers()), (43, 51));
     assert!(front.item(Group::of(*b"MWET"), Tag::Data).is_some() && front.item(Group::of(*b"AALP"), Tag::Data).is_none());
     let mut rows = [7; 512];
     assert!(gpmf::parse_metadata(fifth.payload(), false, &mut rows).is_err());
@@ -131,12 +131,12 @@ fn what_is_told_for_debugging_is_short() {
     let file = sample("damaged.raw");
     let mut packets = gpmf::packets(&file);
     let first = packets.next().unwrap();
-    assert_eq!(format!("{first:?}"), "Packet { range: 8..1220, reading: Ok(Reading { bytes: 1212, rows: 57, headers: 125 }) }");
+    assert_eq!(format!("{first:?}"), "Packet { range: 8..1220, reading: Ok(Reading { bytes: 1212, rows: 57, headers: 68 }) }");
     assert_eq!(format!("{packets:?}"), "Packets { bytes: 5906, at: 1220 }");
     assert_eq!(format!("{:?}", packets.next().unwrap()), "Packet { range: 1228..2430, reading: Err(Refusal { number: 2, place: 984 }) }");
     let reading = first.reading().unwrap();
     let wet = reading.item(Group::of(*b"MWET"), Tag::Data).unwrap();
-    assert_eq!(format!("{reading:?}"), "Reading { bytes: 1212, rows: 57, headers: 125 }");
+    assert_eq!(format!("{reading:?}"), "Reading { bytes: 1212, rows: 57, headers: 68 }");
     assert_eq!(format!("{wet:?}"), format!("Item {{ row: {:?}, .. }}", wet.row()));
 }
 

@@ -33,7 +33,7 @@ says (lists width bytes text) = characters text
 abbrev pub cases : List Case
 cases =
     -- 12
-    lists 28 0x5354524d_00_01_0014_5343414c_73_02_0001_00010000_4759524f_73_06_0000 "rows 1 headers 5\n8 GYRO SCAL 115 2 1 1\n"
+    lists 28 0x5354524d_00_01_0014_5343414c_73_02_0001_00010000_4759524f_73_06_0000 "rows 1 headers 3\n8 GYRO SCAL 115 2 1 1\n"
     -- nothing, and seven bytes, which the walk ignores
     ∷ lists 0 0 "rows 0 headers 0\n"
     ∷ lists 7 0x01020304050607 "rows 0 headers 0\n"
@@ -46,7 +46,7 @@ cases =
     ∷ lists 12 0x217e217e_ff_ff_0000_01020304 "rows 0 headers 1\n"
     ∷ lists 10 0x217e217e_ff_01_0002_0102 "rows 1 headers 1\n0 - !~!~ 255 1 2 0\n"
     ∷ lists 10 0x20414243_42_02_0001_0102 "rows 1 headers 1\n0 - x20414243 66 2 1 0\n"
-    ∷ lists 18 0x5354524d_00_01_000a_4142437f_42_02_0001_0102 "rows 1 headers 3\n8 x4142437f x4142437f 66 2 1 1\n"
+    ∷ lists 18 0x5354524d_00_01_000a_4142437f_42_02_0001_0102 "rows 1 headers 2\n8 x4142437f x4142437f 66 2 1 1\n"
     ∷ []
 
 pub as-document-01-says : map comes cases ≡ map says cases

@@ -1,5 +1,6 @@
--- The listing of a payload, line by line. Document 01, Cases, 12: "The listing program .. prints exactly: rows 1 headers 5 / 8 GYRO SCAL 115 2 1 1",
--- and "Refused: `refused 3 at 0` alone". Assumes nothing: these are definitions.
+-- The listing of a payload, line by line. Document 01, Cases, 12: "The listing program .. prints exactly:" two lines, of
+-- which the second is "8 GYRO SCAL 115 2 1 1"; document 02, No. 10: "Case 12 now prints `headers 3`". And "Refused:
+-- `refused 3 at 0` alone". Assumes nothing: these are definitions.
 use Prim.Native.Nat.{ℕ, _+_, _*_, _≤_}
 use mathlib.Core.Path.{_≡_}
 use mathlib.Core.Bool.{cond}

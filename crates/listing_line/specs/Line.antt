@@ -51,7 +51,7 @@ rowLine r = columns (r .place) (groupIn r) (headerIn r) (r .depth)
 
 -- ---- of an answer
 
--- THE FIRST LINE of an answer: "rows 1 headers 5", or "refused 3 at 0"
+-- THE FIRST LINE of an answer: "rows 1 headers 3", or "refused 3 at 0" (document 01, Cases, 12; document 02, No. 10)
 unfoldable pub answerLine : Metadata → List ℕ
 answerLine (Rows rows headers) = lineOf (characters "rows" ∷ decimal rows ∷ characters "headers" ∷ decimal headers ∷ [])
 answerLine (Refused number place) = lineOf (characters "refused" ∷ decimal number ∷ characters "at" ∷ decimal place ∷ [])

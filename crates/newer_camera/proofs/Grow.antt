@@ -14,7 +14,7 @@ use Rattle.klv.specs.Level.{Level, itemsOf}
 use Rattle.reading.specs.Last.{lastItem}
 use Rattle.reading.specs.Record.{Group, named, Record}
 use Rattle.reading.specs.Walk as Walk
-use Rattle.reading.specs.Walk.{Role, empty, container, typeItem, rowItem, roleOf, headersFor, Spot, typeAfter, after, Outcome, accepted, byRole, itemOutcome, walk, walkItem}
+use Rattle.reading.specs.Walk.{Role, empty, container, typeItem, rowItem, roleOf, itemHeaders, Spot, typeAfter, after, Outcome, accepted, byRole, itemOutcome, walk, walkItem}
 use Rattle.reading.proofs.Role.{role-empty, role-container, Means, role-means}
 use Rattle.reading.proofs.Walk.{node-accepted}
 use Rattle.newer_camera.specs.PutIn.{IsNew, IsOld, Matches, Reached, PutIn, nothing, new, behind, inside}
@@ -110,10 +110,10 @@ module _ (forced : Bool) (by : ℕ → ℕ) where
   inside-grown {h = h} {g = g} {payload = payload} {grown = grown} i m within here there room rs k depth group inner e = go (decLe (dataLen h) 0)
     where
       own : ℕ
-      own = headersFor forced (here .depth)
+      own = itemHeaders
 
       its : ℕ
-      its = headersFor forced (there .depth)
+      its = itemHeaders
 
       news : List Record
       news = rowsFrom forced within (Walk.inside there (groupIn forced (there .group) payload))

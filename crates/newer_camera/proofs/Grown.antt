@@ -18,7 +18,7 @@ use Rattle.klv.specs.Level.{Level}
 use Rattle.reading.specs.Refusal.{tooDeep, noRoom, deepest}
 use Rattle.reading.specs.Last.{Last, lastItem}
 use Rattle.reading.specs.Record.{Group, named, Record}
-use Rattle.reading.specs.Walk.{Role, container, headersFor, Spot, inside, recordOf, refuse, groupInside}
+use Rattle.reading.specs.Walk.{Role, container, itemHeaders, Spot, inside, recordOf, refuse, groupInside}
 use Rattle.reading.specs.Walk.{Outcome, accepted, refused, inFront, andThen, around, rowOutcome, entered, byRole, itemOutcome, walk, walkItem}
 use Rattle.reading.proofs.Outcome.{around-accepted}
 use Rattle.reading.proofs.Role.{role-empty, role-row}
@@ -103,7 +103,7 @@ unfolding itemOutcome
 new-grown forced h payload within here i = go payload (i .whole .is-long)
   where
     own : ℕ
-    own = headersFor forced (here .depth)
+    own = itemHeaders
 
     go : (p : List ℕ) → dataLen h ≡ length p → Grown [] (ownRow here h p) (walkItem forced h p within here)
     go [] e =

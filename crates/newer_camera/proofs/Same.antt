@@ -14,7 +14,7 @@ use Rattle.klv.proofs.Item.{item-lengths}
 use Rattle.klv.proofs.Level.{of-node}
 use Rattle.reading.specs.Last.{lastItem}
 use Rattle.reading.specs.Record.{Group, noType, Record}
-use Rattle.reading.specs.Walk.{Role, empty, container, typeItem, rowItem, roleOf, headersFor, Spot, inside, typeAfter, after, recordOf}
+use Rattle.reading.specs.Walk.{Role, empty, container, typeItem, rowItem, roleOf, itemHeaders, Spot, inside, typeAfter, after, recordOf}
 use Rattle.reading.specs.Walk.{accepted, rowOutcome, byRole, itemOutcome, walk, walkItem}
 use Rattle.reading.proofs.Walk.{node-accepted}
 use Rattle.newer_camera.specs.Rows.{movedType, movedBy}
@@ -64,10 +64,10 @@ module _ (by : ℕ → ℕ) where
     item-same forced h payload within room rs k place inner e = go (roleOf h) e
       where
         own : ℕ
-        own = headersFor forced (here .depth)
+        own = itemHeaders
 
         its : ℕ
-        its = headersFor forced (there .depth)
+        its = itemHeaders
 
         nothing : rs ≡ [] → Grown (map (movedBy by) rs) [] (λ m. accepted [] its)
         nothing none = rw none (no-rows (λ m. accepted [] its) its (λ m. refl))

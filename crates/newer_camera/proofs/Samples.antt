@@ -188,34 +188,34 @@ samples =
       after = newer;
       put = in-twelve;
       room = 4;
-      was = rows (row 8 1 (key "GYRO") 4 (key "SCAL") 0x73_02_0001 noPlace 1 ∷ []) 5;
-      is = rows (another 0 0 0 0 ∷ another 20 1 (key "GYRO") 1 ∷ row 32 1 (key "GYRO") 4 (key "SCAL") 0x73_02_0001 noPlace 1 ∷ another 44 1 (key "GYRO") 1 ∷ []) 12;
+      was = rows (row 8 1 (key "GYRO") 4 (key "SCAL") 0x73_02_0001 noPlace 1 ∷ []) 3;
+      is = rows (another 0 0 0 0 ∷ another 20 1 (key "GYRO") 1 ∷ row 32 1 (key "GYRO") 4 (key "SCAL") 0x73_02_0001 noPlace 1 ∷ another 44 1 (key "GYRO") 1 ∷ []) 7;
     }
     ∷ record {
       before = nested;
       after = grownNested;
       put = in-nested;
       room = 3;
-      was = rows (row 16 1 (key "GYRO") 1 (key "GYRO") 0x42_01_0001 noPlace 2 ∷ []) 5;
-      is = rows (another 8 1 (key "STRM") 1 ∷ another 28 1 (key "GYRO") 2 ∷ row 40 1 (key "GYRO") 1 (key "GYRO") 0x42_01_0001 noPlace 2 ∷ []) 9;
+      was = rows (row 16 1 (key "GYRO") 1 (key "GYRO") 0x42_01_0001 noPlace 2 ∷ []) 3;
+      is = rows (another 8 1 (key "STRM") 1 ∷ another 28 1 (key "GYRO") 2 ∷ row 40 1 (key "GYRO") 1 (key "GYRO") 0x42_01_0001 noPlace 2 ∷ []) 5;
     }
     ∷ record {
       before = cushioned;
       after = grownCushioned;
       put = in-cushioned;
       room = 3;
-      was = rows (row 8 1 (key "GYRO") 1 (key "GYRO") 0x42_01_0001 noPlace 1 ∷ row 20 0 0 0 (key "ABCD") 0x42_01_0001 noPlace 0 ∷ []) 4;
+      was = rows (row 8 1 (key "GYRO") 1 (key "GYRO") 0x42_01_0001 noPlace 1 ∷ row 20 0 0 0 (key "ABCD") 0x42_01_0001 noPlace 0 ∷ []) 3;
       is =
           rows
           (row 8 1 (key "GYRO") 0 (key "NEW0") 0x42_01_0001 noPlace 1 ∷ row 20 1 (key "GYRO") 1 (key "GYRO") 0x42_01_0001 noPlace 1 ∷ row 32 0 0 0 (key "ABCD") 0x42_01_0001 noPlace 0 ∷ [])
-          6;
+          4;
     }
     ∷ record {
       before = cushioned;
       after = grownBehind;
       put = in-behind;
       room = 4;
-      was = rows (row 8 1 (key "GYRO") 1 (key "GYRO") 0x42_01_0001 noPlace 1 ∷ row 20 0 0 0 (key "ABCD") 0x42_01_0001 noPlace 0 ∷ []) 4;
+      was = rows (row 8 1 (key "GYRO") 1 (key "GYRO") 0x42_01_0001 noPlace 1 ∷ row 20 0 0 0 (key "ABCD") 0x42_01_0001 noPlace 0 ∷ []) 3;
       is =
           rows
           (row 8 1 (key "GYRO") 0 (key "NEW0") 0x42_01_0001 noPlace 1
@@ -223,7 +223,7 @@ samples =
           ∷ row 32 0 0 0 (key "NEW0") 0x42_01_0001 noPlace 0
           ∷ row 44 0 0 0 (key "ABCD") 0x42_01_0001 noPlace 0
           ∷ [])
-          7;
+          5;
     }
     ∷ record {
       before = described;

@@ -13,7 +13,7 @@ use Rattle.reading.specs.Refusal.{tooLong, number, mostBytes}
 use Rattle.reading.specs.Last.{Last, last, orElse, lastItem}
 use Rattle.reading.specs.Record.{TypeInForce, Record, numbers}
 use Rattle.reading.specs.Walk as Walk
-use Rattle.reading.specs.Walk.{Role, empty, container, typeItem, rowItem, roleOf, headersFor, Spot, outermost, after, recordOf, Entry, enter, refuse, entry}
+use Rattle.reading.specs.Walk.{Role, empty, container, typeItem, rowItem, roleOf, itemHeaders, Spot, outermost, after, recordOf, Entry, enter, refuse, entry}
 use Rattle.reading.specs.Walk.{Outcome, accepted, refused, inFront, andThen, around, rowOutcome, entered, byRole, itemOutcome, walk, walkItem, readingOf}
 use Rattle.reading.specs.Answer.{refusal, answer}
 use Rattle.reading.proofs.Role.{Means, role-means}
@@ -107,7 +107,7 @@ module _ (forced : Bool) where
   new-same {h = h} {payload = payload} i other within inner here room = go (roleOf h) (role-means h)
     where
       own : ℕ
-      own = headersFor forced (here .depth)
+      own = itemHeaders
 
       row : (m : ℕ) → answer (rowOutcome own m (recordOf here h other)) ≡ answer (rowOutcome own m (recordOf here h payload))
       row zero = refl
@@ -129,7 +129,7 @@ module _ (forced : Bool) where
   container-same {g = g} {grown = grown} m other within inner here room chain same = rw chain (go (roleOf g) (role-means g))
     where
       own : ℕ
-      own = headersFor forced (here .depth)
+      own = itemHeaders
 
       was : Last
       was = lastItem within (here .place + 8)

@@ -18,7 +18,7 @@ use Rattle.klv.specs.OneText.{oneText, typeText}
 use Rattle.reading.specs.Last.{Last, last, lastItem}
 use Rattle.reading.specs.Refusal.{pastEnd, leftOver}
 use Rattle.reading.specs.Record.{Group, TypeInForce, noType, typeAt, Record, typePlace, groupKey}
-use Rattle.reading.specs.Walk.{roleOf, headersFor, Spot, outermost, after, Outcome, accepted, refused, andThen, itemOutcome, walk, readingOf}
+use Rattle.reading.specs.Walk.{roleOf, itemHeaders, Spot, outermost, after, Outcome, accepted, refused, andThen, itemOutcome, walk, readingOf}
 use Rattle.newer_camera.specs.PutIn.{PutIn}
 use Rattle.newer_camera.specs.Rows.{rowsFrom, newRows, putBefore, movedBy, moved}
 use Rattle.newer_camera.specs.OldReader.{Among, neither, an-old, a-new, Met, MeetsNewerCameras}
@@ -75,7 +75,7 @@ module _ (goesOn : KLV → Bool) (naming : Level → ℕ → Last) where
   otherWalk (left n) here room = accepted [] 0
   otherWalk broken here room = refused pastEnd (here .place)
   otherWalk (node h payload within behind) here room =
-      andThen (itemOutcome (headersFor false (here .depth)) false h payload (naming within (here .place + 8)) (otherWalk within) here room)
+      andThen (itemOutcome itemHeaders false h payload (naming within (here .place + 8)) (otherWalk within) here room)
       (λ n. cond (goesOn h) (otherWalk behind (after here h payload) (room - n)) (accepted [] 0))
 
   abbrev pub walking : List ℕ → ℕ → Outcome
@@ -88,7 +88,7 @@ right-walk (left n) here room = refl
 right-walk broken here room = refl
 right-walk (node h payload within behind) here room =
     λ i. andThen
-    (itemOutcome (headersFor false (here .depth)) false h payload (lastItem within (here .place + 8)) (λ x m. right-walk within x m i) here room)
+    (itemOutcome itemHeaders false h payload (lastItem within (here .place + 8)) (λ x m. right-walk within x m i) here room)
     (λ n. right-walk behind (after here h payload) (room - n) i)
 
 -- one for which an item that it does not know ends the level

@@ -22,7 +22,7 @@ use Rattle.reading.specs.Front.{madeBefore, recordsBefore}
 use Rattle.reading.proofs.Cut.{first-front}
 use Rattle.reading.proofs.Payload.{read-long, read-within, read-accepted}
 use Rattle.reading.proofs.Walk.{NodeRefused, item-is, rest-is, node-accepted, node-refused}
-use Rattle.reading.proofs.Count.{by-items}
+use Rattle.reading.proofs.Count.{by-formula}
 
 module _ (forced : Bool) where
   -- the bytes of a level before the place p: accepted, with the records that were made before
@@ -119,19 +119,18 @@ all-records forced s room rs headers e = whole forced (itemsOf s) s outermost ro
 
 -- THE FRONT RULE
 pub front-rule : (forced : Bool) (s : List ℕ) (room : ℕ) (why : Refusal) (p : ℕ) → readingOf forced s room ≡ refused why p
-    → readingOf forced (take p s) room ≡ accepted (recordsBefore p forced s room) (headersByItems forced (itemsOf (take p s)))
+    → readingOf forced (take p s) room ≡ accepted (recordsBefore p forced s room) (headersByItems (itemsOf (take p s)))
 front-rule forced s room why p e = go (decLe (length s) 1048576)
   where
     as-read-alone : length (take p s) ≤ 1048576 → Alone forced (itemsOf s) s outermost room p
-        → readingOf forced (take p s) room ≡ accepted (recordsBefore p forced s room) (headersByItems forced (itemsOf (take p s)))
+        → readingOf forced (take p s) room ≡ accepted (recordsBefore p forced s room) (headersByItems (itemsOf (take p s)))
     as-read-alone short a =
         let whole : p - 0 ≡ p = omega arith in
         let walked : walk forced (itemsOf (take p s)) outermost room ≡ accepted (recordsBefore p forced s room) (a .headers) = rw whole at (a .accepts) in
-        read-within forced (take p s) room short
-        ∙ walked
-        ∙ ap (accepted (recordsBefore p forced s room)) (by-items forced (itemsOf (take p s)) room (recordsBefore p forced s room) (a .headers) walked)
+        let read : readingOf forced (take p s) room ≡ accepted (recordsBefore p forced s room) (a .headers) = read-within forced (take p s) room short ∙ walked in
+        read ∙ ap (accepted (recordsBefore p forced s room)) (by-formula forced (take p s) room (recordsBefore p forced s room) (a .headers) read)
 
-    go : Dec (length s ≤ 1048576) → readingOf forced (take p s) room ≡ accepted (recordsBefore p forced s room) (headersByItems forced (itemsOf (take p s)))
+    go : Dec (length s ≤ 1048576) → readingOf forced (take p s) room ≡ accepted (recordsBefore p forced s room) (headersByItems (itemsOf (take p s)))
     go (yes l) = as-read-alone (simp length-take (omega arith)) (fronted forced (itemsOf s) s outermost room why p refl (sym (read-within forced s room l) ∙ e))
     go (no l) =
         let long = read-long forced s room (omega arith) in

@@ -10,6 +10,9 @@ pub mod Last
 pub mod Row
 pub mod Count
 pub mod Bounds
+pub mod Reach
+pub mod OnePass
+pub mod Over
 pub mod Stand
 pub mod Front
 pub mod ChainFront

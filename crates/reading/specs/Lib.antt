@@ -2,7 +2,9 @@ pub mod Refusal
 pub mod Last
 pub mod Record
 pub mod Walk
+pub mod Free
 pub mod Front
 pub mod Count
+pub mod Once
 pub mod Answer
 pub mod Place

@@ -38,8 +38,8 @@ twoRows = 0x41424344_42_04_0001_01020304_45464748_42_04_0001_01020304
 
 abbrev prints : List (List ℕ × String)
 prints =
-    (taken false 1 8 2048 28 case12, "packet 1 at 8 bytes 28\nrows 1 headers 5\n8 GYRO SCAL 115 2 1 1\n")
-    ∷ (taken true 1 8 2048 28 case12, "packet 1 at 8 bytes 28\nrows 1 headers 5\n8 GYRO SCAL 115 2 1 1\n")
+    (taken false 1 8 2048 28 case12, "packet 1 at 8 bytes 28\nrows 1 headers 3\n8 GYRO SCAL 115 2 1 1\n")
+    ∷ (taken true 1 8 2048 28 case12, "packet 1 at 8 bytes 28\nrows 1 headers 3\n8 GYRO SCAL 115 2 1 1\n")
     ∷ (taken false 7 16 2048 0 0, "packet 7 at 16 bytes 0\nrows 0 headers 0\n")
     -- refused: its front, and nothing where only accepted ones are printed
     ∷ (taken false 2 44 2048 24 rowAndRest, "packet 2 at 44 bytes 24\nrefused 3 at 12\nfront rows 1 headers 1\n0 - ABCD 66 1 1 0\n")

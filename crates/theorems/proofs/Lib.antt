@@ -5,4 +5,5 @@ pub mod TaggedRow
 pub mod AllElements
 pub mod MarkedCases
 pub mod NewerCameraCall
+pub mod ReadOnceCall
 pub mod TextKinds

@@ -158,10 +158,10 @@ cases =
     ∷ turns "YxZ" "XYZ" turned
     ∷ names turned (three (code "y") (code "X") (code "Z"))
     -- 11
-    ∷ walks (round 16 (item "GYRO" (code "B") 1 1 (7 ∷ []))) false (Rows 1 33) (row 128 1 (key "GYRO") 1 (key "GYRO") 0x42_01_0001 noPlace 16 ∷ [])
+    ∷ walks (round 16 (item "GYRO" (code "B") 1 1 (7 ∷ []))) false (Rows 1 17) (row 128 1 (key "GYRO") 1 (key "GYRO") 0x42_01_0001 noPlace 16 ∷ [])
     ∷ walks (round 17 (item "GYRO" (code "B") 1 1 (7 ∷ []))) false (Refused 4 0) []
     -- 12
-    ∷ walks twelve false (Rows 1 5) (row 8 1 (key "GYRO") 4 (key "SCAL") 0x73_02_0001 noPlace 1 ∷ [])
+    ∷ walks twelve false (Rows 1 3) (row 8 1 (key "GYRO") 4 (key "SCAL") 0x73_02_0001 noPlace 1 ∷ [])
     ∷ []
 
 pub marked-cases : map comes cases ≡ map says cases

@@ -139,26 +139,22 @@ use Rattle.rows.proofs.row_at.Kinds as row-at-kinds
 use Rattle.rows.proofs.row_at.Reads as row-at-reads
 use Rattle.rows.proofs.lookup.Kinds as lookup-kinds
 use Rattle.rows.proofs.lookup.Reads as lookup-reads
-use Rattle.spot.proofs.role_of.Kinds as role-of-kinds
-use Rattle.spot.proofs.role_of.Reads as role-of-reads
-use Rattle.spot.proofs.headers_for.Kinds as headers-for-kinds
-use Rattle.spot.proofs.headers_for.Reads as headers-for-reads
-use Rattle.spot.proofs.group_inside.Kinds as group-inside-kinds
-use Rattle.spot.proofs.group_inside.Reads as group-inside-reads
 use Rattle.spot.proofs.type_shown.Kinds as type-shown-kinds
 use Rattle.spot.proofs.type_shown.Reads as type-shown-reads
-use Rattle.spot.proofs.row_of.Kinds as row-of-kinds
-use Rattle.spot.proofs.row_of.Reads as row-of-reads
 use Rattle.spot.proofs.type_after.Kinds as type-after-kinds
 use Rattle.spot.proofs.type_after.Reads as type-after-reads
+use Rattle.header_bytes.proofs.item_bytes.Kinds as item-bytes-kinds
+use Rattle.header_bytes.proofs.item_bytes.Reads as item-bytes-reads
+use Rattle.check_pass.proofs.held_back.Kinds as held-back-kinds
+use Rattle.check_pass.proofs.held_back.Reads as held-back-reads
+use Rattle.check_pass.proofs.check_payload.Kinds as check-payload-kinds
+use Rattle.check_pass.proofs.check_payload.Reads as check-payload-reads
 use Rattle.header_bytes.proofs.next_at.Kinds as next-at-kinds
 use Rattle.header_bytes.proofs.next_at.Reads as next-at-reads
 use Rattle.header_bytes.proofs.key_at.Kinds as key-at-kinds
 use Rattle.header_bytes.proofs.key_at.Reads as key-at-reads
 use Rattle.header_bytes.proofs.row_shape_at.Kinds as row-shape-at-kinds
 use Rattle.header_bytes.proofs.row_shape_at.Reads as row-shape-at-reads
-use Rattle.walk.proofs.walk.Kinds as walk-kinds
-use Rattle.walk.proofs.walk.Reads as walk-reads
 use Rattle.metadata.proofs.parse_metadata.Kinds as parse-metadata-kinds
 use Rattle.metadata.proofs.parse_metadata.Reads as parse-metadata-reads
 use Rattle.fixed.proofs.q15_16.Kinds as q15-16-kinds
@@ -474,23 +470,20 @@ row-at κs a x y s t p q = p ∙ sym q
 pub lookup : OneResult 1 lookup-kinds.ps lookup-kinds.r lookup-reads.Learnt
 lookup κs a x y s t p q = p ∙ sym q
 
-pub role-of : OneResult 0 role-of-kinds.ps role-of-kinds.r role-of-reads.Learnt
-role-of κs a x y s t p q = p ∙ sym q
-
-pub headers-for : OneResult 0 headers-for-kinds.ps headers-for-kinds.r headers-for-reads.Learnt
-headers-for κs a x y s t p q = p .0 ∙ sym (q .0)
-
-pub group-inside : OneResult 1 group-inside-kinds.ps group-inside-kinds.r group-inside-reads.Learnt
-group-inside κs a x y s t p q = p ∙ sym q
-
 pub type-shown : OneResult 0 type-shown-kinds.ps type-shown-kinds.r type-shown-reads.Learnt
 type-shown κs a x y s t p q = p ∙ sym q
 
-pub row-of : OneResult 0 row-of-kinds.ps row-of-kinds.r row-of-reads.Learnt
-row-of κs a x y s t p q = p ∙ sym q
-
 pub type-after : OneResult 0 type-after-kinds.ps type-after-kinds.r type-after-reads.Learnt
 type-after κs a x y s t p q = p ∙ sym q
+
+pub item-bytes : OneResult 0 item-bytes-kinds.ps item-bytes-kinds.r item-bytes-reads.Learnt
+item-bytes κs a x y s t p q = p ∙ sym q
+
+pub held-back : OneResult 1 held-back-kinds.ps held-back-kinds.r held-back-reads.Learnt
+held-back κs a x y s t p q = p ∙ sym q
+
+pub check-payload : OneResult 1 check-payload-kinds.ps check-payload-kinds.r check-payload-reads.Learnt
+check-payload κs a x y s t p q = p ∙ sym q
 
 pub next-at : OneResult 1 next-at-kinds.ps next-at-kinds.r next-at-reads.Learnt
 next-at κs a x y s t p q = p ∙ sym q
@@ -500,9 +493,6 @@ key-at κs a x y s t p q = p ∙ sym q
 
 pub row-shape-at : OneResult 1 row-shape-at-kinds.ps row-shape-at-kinds.r row-shape-at-reads.Learnt
 row-shape-at κs a x y s t p q = p ∙ sym q
-
-pub walk : OneAnswer 2 walk-kinds.ps walk-kinds.r walk-reads.Learnt (λ κs s. now (s .1 .1 .0))
-walk κs a x y s t p q = (p .is ∙ sym (q .is), p .rows ∙ sym (q .rows))
 
 pub parse-metadata : OneAnswer 2 parse-metadata-kinds.ps parse-metadata-kinds.r parse-metadata-reads.Learnt (λ κs s. now (s .1 .1 .0))
 parse-metadata κs a x y s t p q = (p .is ∙ sym (q .is), p .rows ∙ sym (q .rows))

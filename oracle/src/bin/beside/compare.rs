@@ -120,6 +120,11 @@ fn deepest(level: &[u8]) -> u32 {
 fn accepted(bytes: &[u8], forced: bool, walked: &Walked, answer: MetadataAnswer, rows: &[u32], draw: &mut Draw, tally: &mut Tally) -> Outcome {
     same("how many rows", &walked.items.len(), &answer.rows)?;
     same("how many headers", &walked.headers, &answer.headers)?;
+    let reads = model::reads(bytes, forced, walked.headers);
+    holds(walked.reads == reads, || format!("how often the Rust reads a header: expected {reads}, it has {}", walked.reads))?;
+    if reads != walked.headers {
+        tally.listed(Listed::ReadTwice);
+    }
     for (n, item) in walked.items.iter().enumerate() {
         row(bytes, rows, n, item, draw, tally).map_err(|what| format!("row {n}: {what}"))?;
     }

@@ -71,10 +71,10 @@ fn refused_value(payload: &str, panics: bool, number: u32) -> Outcome {
     same("the value's refusal", &Err(number), &our_value(&payload))
 }
 
-/// The Rust accepts a payload with so many rows and headers, and the library refuses it with a number at a place.
-fn over_limit(payload: &[u8], rows: usize, headers: usize, number: u32, place: usize) -> Outcome {
+/// The Rust accepts a payload with so many rows and reads of headers, and the library refuses it with a number at a place.
+fn over_limit(payload: &[u8], rows: usize, reads: usize, number: u32, place: usize) -> Outcome {
     let walked = published_side::walk(payload, false);
-    same("the Rust's rows and headers", &(true, rows, headers), &(walked.map.is_some(), walked.items.len(), walked.headers))?;
+    same("the Rust's rows and reads of headers", &(true, rows, reads), &(walked.map.is_some(), walked.items.len(), walked.reads))?;
     let (answer, _) = library::read(payload, false, 5000 * 8);
     same("the refusal", &(REFUSED, number, place), &answer.told())
 }
@@ -86,11 +86,13 @@ fn refused_list(packets: &[Timed], theirs: Option<f64>, entry: Listed) -> Outcom
     listed_alone(entry, &Input::Average(packets.to_vec()))
 }
 
-/// A comparison counts an input under these entries, and under no other but 9, which every header that is not there falls under.
+/// A comparison counts an input under these entries, and under no other but 9, which every header that is not there falls
+/// under, and 30, which every container with items in it falls under.
 fn listed_among(entries: &[Listed], input: &Input) -> Outcome {
     let mut tally = Tally::new();
     input.ask(&mut tally)?;
-    let met: Vec<Listed> = Listed::ALL.iter().copied().filter(|l| tally.listed[*l as usize] > 0 && *l != Listed::TwoFindings).collect();
+    let passed_over = |entry: &Listed| matches!(entry, Listed::TwoFindings | Listed::ReadTwice) && !entries.contains(entry);
+    let met: Vec<Listed> = Listed::ALL.iter().copied().filter(|l| tally.listed[*l as usize] > 0 && !passed_over(l)).collect();
     same("the entries that an input falls under", &entries.to_vec(), &met)
 }
 fn listed_alone(entry: Listed, input: &Input) -> Outcome {
@@ -474,7 +476,18 @@ fn files_that_are_cut() -> Outcome {
     Ok(())
 }
 
-const ENTRIES: [(&str, fn() -> Outcome); 31] = [
+fn headers_read_twice() -> Outcome {
+    let payload = bytes("5354524d 00 01 0014 5343414c 73 02 0001 00010000 4759524f 73 06 0000");
+    for (forced, reads) in [(false, 5), (true, 3)] {
+        let walked = published_side::walk(&payload, forced);
+        same("the Rust's rows, reads of headers and places of these", &(1, reads, 3), &(walked.items.len(), walked.reads, walked.headers))?;
+        let (answer, _) = library::read(&payload, forced, 8);
+        same("rows and headers", &(IS, 1, 3), &(answer.kind, answer.rows, answer.headers))?;
+    }
+    listed_alone(Listed::ReadTwice, &Input::Payload(payload))
+}
+
+const ENTRIES: [(&str, fn() -> Outcome); 32] = [
     ("1, the divisor of Q", divisor_of_q),
     ("2, size against the widths of letters", size_against_widths),
     ("3, MAGN has a group and no tag, FACE has neither", streams_without_a_tag),
@@ -506,6 +519,7 @@ const ENTRIES: [(&str, fn() -> Outcome); 31] = [
     ("27, axes that are not X, Y and Z", other_letters_for_axes),
     ("28, axes by the model of the camera", axes_by_the_model),
     ("29, which files are cut", files_that_are_cut),
+    ("30, headers that the Rust reads twice", headers_read_twice),
 ];
 
 /// Every entry is as it says; each that is not is told.

@@ -5,18 +5,18 @@ use published::tags_impl::{GroupId, GroupedTagMap, TagDescription, probe_tag_num
 use published::util::{begin_list, end_list};
 use std::panic::{AssertUnwindSafe, catch_unwind};
 
-/// A walk: its map, all that it put in, in order, and how many headers it read.
+/// A walk: its map, all that it put in, in order, at how many places it read a header, and how often it read one.
 pub struct Walked {
     pub map: Option<GroupedTagMap>,
     pub items: Vec<TagDescription>,
     pub headers: usize,
+    pub reads: usize,
 }
 
 pub fn walk(payload: &[u8], forced: bool) -> Walked {
-    let before = byteorder::u16_reads();
     begin_list();
-    let map = GoPro::parse_metadata(payload, GroupId::Default, forced, &Default::default()).ok();
-    Walked { map, items: end_list(), headers: (byteorder::u16_reads() - before) as usize }
+    let (map, headers) = byteorder::headers_of(|| GoPro::parse_metadata(payload, GroupId::Default, forced, &Default::default()).ok());
+    Walked { map, items: end_list(), headers: headers.places, reads: headers.reads }
 }
 
 /// A group as a row has it: its kind, and its key.

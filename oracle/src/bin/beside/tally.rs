@@ -68,6 +68,7 @@ named! {
         Told = "19, a packet that is refused and told",
         ShortQuaternions = "20, quaternions with too few bytes",
         NegativeStamp = "20, a stamp of 2^63 or more",
+        ReadTwice = "30, headers that the Rust reads twice",
     }
 }
 
