@@ -415,8 +415,9 @@ static void deep_payloads(void) {
     CHECK(row_is(gpmf_row_at(numbers, 8, 0), row(128, 1, key, 0, key, shape_of('B', 4, 1), GPMF_NO_TYPE, 16)));
 }
 
-/* gpmf.h says that a reading takes at most 16 KB of the stack. So it is called on a stack of its own, of 16 KB and one page for the frames of this program, with a page that
- * may not be touched below it: 16 containers, the deepest that is accepted, 17, which are refused, and the same with bytes left over. */
+/* gpmf.h says that a reading takes at most 16 KB of the stack. So it is called on a stack of its own of 16 KB, the frames
+ * of this program among them, with a page that may not be touched below it: 16 containers, the deepest that is accepted,
+ * 17, which are refused, and 18 with bytes left over in the outermost. */
 static struct {
     ucontext_t home;
     ucontext_t away;
@@ -431,7 +432,7 @@ static void on_a_small_stack(void) { small.answer = gpmf_parse_metadata(small.by
 
 static gpmf_metadata_answer read_on_a_small_stack(uint8_t containers, uint8_t left, bool forced) {
     size_t page = (size_t)sysconf(_SC_PAGESIZE);
-    size_t size = 16 * 1024 + page;
+    size_t size = 16 * 1024;
     uint8_t *stack = (uint8_t *)mmap(NULL, size + page, PROT_READ | PROT_WRITE, MAP_PRIVATE | MAP_ANONYMOUS, -1, 0);
     if (stack == MAP_FAILED || mprotect(stack, page, PROT_NONE) != 0 || getcontext(&small.away) != 0) abort();
     small.size = lay_nested(containers, left, small.bytes);

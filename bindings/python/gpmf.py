@@ -716,7 +716,8 @@ def rows(payload: Bytes, forced: bool = False, room: int = MOST_ROWS) -> Reading
 
 
 def parse_metadata(payload: Bytes, forced: bool, rows: Numbers) -> Tuple[int, int]:
-    """The counts of rows and headers (one for each item) of a payload, whose rows go into lent numbers, eight each. Refused with 1 to 5, and then the numbers stay as they were."""
+    """The counts of rows and headers (one for each item) of a payload, whose rows go into lent numbers, eight each.
+    Refused with 1 to 5, and then the numbers stay as they were."""
     answer = _call("gpmf_parse_metadata", _bytes(payload), _flag(forced), _numbers(rows, written=True))
     _is(answer)
     return answer.rows, answer.headers

@@ -1,5 +1,5 @@
--- Listings computed by the definitions: document 01's case 12 to the byte, the empty payload, a refused one, and keys that cannot be seen.
--- Assumes nothing.
+-- Listings computed by the definitions: document 01's case 12 to the byte, the empty payload, a refused one, and keys
+-- that cannot be seen. Assumes nothing.
 use Prim.Native.Nat.{ℕ}
 use Prim.Native.String.{String}
 use mathlib.Core.Path.{_≡_, refl}

@@ -1,5 +1,5 @@
--- The listing of a payload, line by line. Document 01, Cases, 12: "The listing program .. prints exactly:" two lines, of
--- which the second is "8 GYRO SCAL 115 2 1 1"; document 02, No. 10: "Case 12 now prints `headers 3`". And "Refused:
+-- The listing of a payload, line by line. Document 01, Cases, 12: "The listing program .. prints exactly:" two lines,
+-- of which the second is "8 GYRO SCAL 115 2 1 1"; document 02, No. 10: "Case 12 now prints `headers 3`". And "Refused:
 -- `refused 3 at 0` alone". Assumes nothing: these are definitions.
 use Prim.Native.Nat.{ℕ, _+_, _*_, _≤_}
 use mathlib.Core.Path.{_≡_}
@@ -41,14 +41,15 @@ abbrev pub lineAt : RowAt → List (List ℕ)
 lineAt (Is r) = rowLine r ∷ []
 lineAt Outside = []
 
--- THE LINES of the first so many rows; the refusal alone where lent numbers have no room for so many (document 01, Refusal numbers, 5: "a row, written or
--- claimed, does not fit the room")
+-- THE LINES of the first so many rows; the refusal alone where lent numbers have no room for so many (document 01,
+-- Refusal numbers, 5: "a row, written or claimed, does not fit the room")
 abbrev pub rowLines : List ℕ → ℕ → List (List ℕ)
 rowLines s count = cond (ltb (roomOf (length s)) count) (answerLine (Refused (number noRoom) 0) ∷ []) (map rowLine (rowsOf count s))
 
 -- ---- laid into a lent buffer
 
--- what listing a payload promises: what laying its lines does, and the lent numbers, which are as the reading leaves them
+-- what listing a payload promises: what laying its lines does, and the lent numbers, which are as the reading leaves
+-- them
 pub record Lists (outcome : Outcome) (old out : List ℕ) (at answer : ℕ) (new after : List ℕ) : Type 0 where
   pub is : answer ≡ behindLines (listing outcome) out at
   pub leaves : after ≡ laidLines (listing outcome) out at

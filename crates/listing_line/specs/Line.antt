@@ -1,6 +1,6 @@
--- A line of a listing, and how its columns are shown. Document 01, Cases, 12: "Columns: place, group (`-` for the caller's), key, type, size,
--- repeat, depth, decimal."; "Refused: `refused 3 at 0` alone".
--- Assumes nothing: these are definitions.
+-- A line of a listing, and how its columns are shown. Document 01, Cases, 12: "Columns: place, group (`-` for the
+-- caller's), key, type, size, repeat, depth, decimal."; "Refused: `refused 3 at 0` alone". Assumes nothing: these are
+-- definitions.
 use Prim.Native.Nat.{ℕ, _/_, _%_, _^_}
 use mathlib.Core.Bool.{cond}
 use mathlib.Core.List.{List, [], _∷_, _++_}
@@ -37,7 +37,8 @@ columns place group h depth =
 
 -- ---- of a row in lent numbers
 
--- a row's group (document 01, Items and the walk: "group kind (0 caller's, 1 by key)"; any other kind is taken by its key)
+-- a row's group (document 01, Items and the walk: "group kind (0 caller's, 1 by key)"; any other kind is taken by its
+-- key)
 abbrev pub groupIn : Row → Group
 groupIn r = cond (eqb (r .«group_kind») 0) callers (named (r .«group_key»))
 
