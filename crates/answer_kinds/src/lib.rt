@@ -1,5 +1,7 @@
 // The kinds of an answer that is told to a caller in another language: the number that each answer begins with.
 
+#![tactic(auto)]
+
 // Refused, with a number and a place.
 pub const REFUSED: u32 = 0;
 // There, with its values.

@@ -1,5 +1,8 @@
 // Answers as plain records of numbers, for callers in other languages: the kind of answer, a refusal's number and place, and the values.
 // What an answer does not have is 0. Here whole numbers, items and parts.
+
+#![tactic(auto)]
+
 ghost use Rattle.std.specs.Prelude.{◌≡◌};
 ghost use Rattle.answers.specs.Answers as tells;
 

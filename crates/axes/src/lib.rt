@@ -1,5 +1,8 @@
 // What axes are: the definitions of the matrix that ORIN and ORIO give and of the axes that a matrix names, and the law that joins them. No code.
 // Three axes in order, a character each.
+
+#![tactic(auto)]
+
 #[repr(C)]
 #[derive(Drop)]
 pub struct Axes {

@@ -1,4 +1,7 @@
 // Axes to a matrix: what the texts of ORIN and ORIO name, and the matrix that they give.
+
+#![tactic(auto)]
+
 ghost use Rattle.std.specs.Prelude.{◌≡◌, length};
 ghost use Rattle.axes.specs.Matrix.{three_ascii, axes_of, orientations_of, small, entry_of, row_of, matrix_of};
 

@@ -1,4 +1,7 @@
 // TYPE texts written out: `f[3]` stands for `fff`.
+
+#![tactic(auto)]
+
 mod count;
 mod step;
 

@@ -1,4 +1,7 @@
 // Values that are a date.
+
+#![tactic(auto)]
+
 ghost use Rattle.std.specs.Prelude.{◌≡◌};
 ghost use Rattle.dates.specs.Date.{date_of};
 ghost use Rattle.value.specs.Value.{dated};

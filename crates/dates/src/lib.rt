@@ -1,4 +1,7 @@
 // Dates (type U): the text yymmddhhmmss.sss, in milliseconds since 1970.
+
+#![tactic(auto)]
+
 mod calendar;
 mod fields;
 

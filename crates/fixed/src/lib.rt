@@ -1,4 +1,7 @@
 // Fixed-point numbers of a high and a low part: q in f32; Q in f64 and, with nothing rounded, as two whole numbers.
+
+#![tactic(auto)]
+
 ghost use Rattle.std.specs.Prelude.{◌≡◌};
 ghost use Rattle.fixed.specs.Fixed.{q15_16, q31_32, q31_32_exact};
 

@@ -1,4 +1,7 @@
 // The bits of floats, with one pattern for every NaN.
+
+#![tactic(auto)]
+
 ghost use Rattle.std.specs.Prelude.{◌≡◌};
 ghost use Rattle.float_bits.specs.FloatBits.{single_bits, double_bits};
 

@@ -1,4 +1,7 @@
 // The ground that the other crates stand on: recursion by fuel, texts, their pieces and digits (definitions only), and big-endian numbers.
+
+#![tactic(auto)]
+
 ghost use Rattle.std.specs.Prelude.{◌≡◌, ◌<◌, min, take};
 ghost use Rattle.foundation.specs.BigEndian.{big_endian};
 

@@ -1,4 +1,7 @@
 // Lists what the payload on standard input is read as: a line for its rows and headers and one for each row, or `refused N at P` alone.
+
+#![tactic(auto)]
+
 ghost use Rattle.listing_line.specs.Lines.{Begins};
 ghost use Rattle.gpmf_list.specs.Printed.{printed};
 

@@ -1,5 +1,8 @@
 // Prints the raw file on standard input packet by packet: a line for each, then its listing, or its refusal and the listing of its front.
 // With the argument `whole` only accepted packets are printed. The file may have any length: a window of it is held.
+
+#![tactic(auto)]
+
 mod held;
 mod printed;
 

@@ -1,4 +1,7 @@
 // The item at a place, with its payload and the TYPE text that it asks for.
+
+#![tactic(auto)]
+
 ghost use Rattle.std.specs.Prelude.{◌≡◌, ◌+◌, drop};
 ghost use Rattle.klv.specs.Item.{first_item};
 ghost use Rattle.klv.specs.Header.{header_at};

@@ -1,4 +1,7 @@
 // What a key is known by: its tag number, and the group that it names.
+
+#![tactic(auto)]
+
 pub mod names;
 pub mod tags;
 

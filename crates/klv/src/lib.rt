@@ -1,4 +1,7 @@
 // Items: a header of eight bytes at a place, the length that it gives its payload, and the padding behind that.
+
+#![tactic(auto)]
+
 ghost use Rattle.std.specs.Prelude.{◌≡◌, ◌≤◌, ◌<◌, length};
 ghost use Rattle.klv.specs.Item.{header_of, data_len, aligned};
 ghost use Rattle.klv.specs.Header.{header_of_first, header_at};

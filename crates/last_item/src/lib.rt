@@ -1,4 +1,7 @@
 // The last item of a level and of a payload: the chain of headers, each item stepped over by its padded length, to the end.
+
+#![tactic(auto)]
+
 ghost use Rattle.std.specs.Prelude.{◌≡◌, drop};
 ghost use Rattle.klv.specs.Level.{items_of};
 ghost use Rattle.reading.specs.Last.{last_item, last_reading};

@@ -1,4 +1,7 @@
 // What is read out of a piece of a line: numbers, bytes in hex.
+
+#![tactic(auto)]
+
 ghost use Rattle.std.specs.Prelude.{◌≡◌, true, ◌+◌, ◌*◌, ◌<◌, ◌≤◌, length};
 ghost use Rattle.text.specs.Lay.{over};
 ghost use Rattle.foundation.specs.Digits.{worth_of, are_digits};

@@ -1,4 +1,7 @@
 // The listing of a payload, laid into a lent buffer: its first line, and a line for each row.
+
+#![tactic(auto)]
+
 ghost use Rattle.std.specs.Prelude.{false, length};
 ghost use Rattle.reading.specs.Walk.{reading_of, room_of};
 ghost use Rattle.rows.specs.Row.{row_at};

@@ -1,4 +1,7 @@
 // A line of a listing, laid into a lent buffer whole or not at all: the first line of an answer, and the line of a row.
+
+#![tactic(auto)]
+
 mod word;
 
 ghost use Rattle.std.specs.Prelude.{[], ◌∷◌};

@@ -1,4 +1,7 @@
 // Matrices as plain records of numbers, for callers in other languages.
+
+#![tactic(auto)]
+
 ghost use Rattle.std.specs.Prelude.{◌≡◌};
 ghost use Rattle.matrix_answers.specs.Answers as tells;
 

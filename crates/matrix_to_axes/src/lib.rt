@@ -1,4 +1,7 @@
 // A matrix to axes: those that it names.
+
+#![tactic(auto)]
+
 ghost use Rattle.std.specs.Prelude.{◌≡◌};
 ghost use Rattle.axes.specs.Back.{beyond, axis_of, lettered, orientation_of, orientation_in};
 

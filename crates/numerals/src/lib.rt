@@ -1,4 +1,7 @@
 // Numbers laid into a lent buffer by their digits, as crate `text` lays bytes.
+
+#![tactic(auto)]
+
 ghost use Rattle.std.specs.Prelude.{◌≡◌, true, ◌∷◌, ◌+◌, ◌<◌, ◌≤◌, pos, length, get_or};
 ghost use Rattle.std.specs.Int.Signed.{lt_z, mag};
 ghost use Rattle.foundation.specs.Digits.{digits};

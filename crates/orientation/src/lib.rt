@@ -1,4 +1,7 @@
 // Orientation: the axes of a group's readings, by its MTRX, or by its ORIN and ORIO where it has no MTRX.
+
+#![tactic(auto)]
+
 ghost use Rattle.std.specs.Prelude.{◌≡◌, ◌/◌};
 ghost use Rattle.foundation.specs.Text.{key};
 ghost use Rattle.keys.specs.Tags.{orientation_in_tag, orientation_out_tag};

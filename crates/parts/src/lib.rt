@@ -1,4 +1,7 @@
 // Parts of what was lent: the bytes of an item, and a text of its value, each by where it starts and how many bytes it has.
+
+#![tactic(auto)]
+
 ghost use Rattle.std.specs.Prelude.{◌≡◌, ◌<◌, ◌≤◌};
 ghost use Rattle.items.specs.At.{found_at};
 ghost use Rattle.parts.specs.Parts.{bytes_of_found, text_of_found, text_by, SmallRow, cut, bytes_from};

@@ -1,4 +1,7 @@
 // The value of a header, a payload and a TYPE text: its shape, and its elements by row and column.
+
+#![tactic(auto)]
+
 mod grid;
 mod plan;
 

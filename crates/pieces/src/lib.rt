@@ -1,4 +1,7 @@
 // The pieces of a text, as the words of a line.
+
+#![tactic(auto)]
+
 ghost use Rattle.std.specs.Prelude.{◌≡◌, [], ◌+◌, length, get_or, drop};
 ghost use Rattle.foundation.specs.Pieces.{before, pieces_of};
 ghost use Rattle.pieces.specs.Piece.{up_to};

@@ -1,4 +1,7 @@
 // Quaternions of CORI and IORI, scaled.
+
+#![tactic(auto)]
+
 ghost use Rattle.std.specs.Prelude.{◌≡◌};
 ghost use Rattle.tagged.specs.Number.{signed_number, Sixteen};
 ghost use Rattle.quaternions.specs.Scaled.{number_at, scale_of, quaternion_at, quaternion_of};

@@ -1,4 +1,7 @@
 // Rows, readings and packets as plain records of numbers, for callers in other languages, as crate `answers` has it.
+
+#![tactic(auto)]
+
 ghost use Rattle.std.specs.Prelude.{◌≡◌};
 ghost use Rattle.reading_answers.specs.Answers as tells;
 

@@ -1,5 +1,8 @@
 // Answers what the Rust oracle was asked of axes, a line each (oracle/README.md has the protocol).
 // Standard input has at most 1,048,576 bytes; what stands behind them is not read.
+
+#![tactic(auto)]
+
 mod questions;
 mod writing;
 

@@ -1,5 +1,8 @@
 // Answers what the Rust oracle was asked of the kinds of values in payloads, item by item (oracle/README.md has the protocol).
 // Standard input has at most 2,097,152 bytes; what stands behind them is not read.
+
+#![tactic(auto)]
+
 mod kinds;
 mod questions;
 

@@ -1,5 +1,8 @@
 // Answers what the Rust oracle was asked of raw files: where their packets lie, and how each is read (oracle/README.md has the protocol).
 // Standard input has at most 1,048,576 bytes; what stands behind them is not read.
+
+#![tactic(auto)]
+
 mod packets;
 mod questions;
 mod writing;

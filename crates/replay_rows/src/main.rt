@@ -1,5 +1,8 @@
 // Answers what the Rust oracle was asked of payloads: what it puts into its map, item by item (oracle/README.md has the protocol).
 // Standard input has at most 2,097,152 bytes; what stands behind them is not read.
+
+#![tactic(auto)]
+
 mod items;
 mod questions;
 mod writing;

@@ -1,4 +1,7 @@
 // Rows in lent numbers: the room for them, one stored, one read, and the last one of a group and tag.
+
+#![tactic(auto)]
+
 ghost use Rattle.std.specs.Prelude.{◌≡◌, ◌<◌, length};
 ghost use Rattle.reading.specs.Walk.{room_of};
 ghost use Rattle.rows.specs.Row.{row_of, row_at, Put};

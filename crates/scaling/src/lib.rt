@@ -1,4 +1,7 @@
 // The four numbers of a quaternion by a scale.
+
+#![tactic(auto)]
+
 ghost use Rattle.std.specs.Prelude.{◌≡◌};
 ghost use Rattle.scaling.specs.Quaternion.{negated16, scaled_by};
 

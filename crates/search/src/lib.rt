@@ -1,5 +1,8 @@
 // The search for DEVC in straight code: blocks without DEVC are passed in loops that have no branch and a known count, so that the compiler takes
 // many places a step.
+
+#![tactic(auto)]
+
 mod block;
 mod filters;
 

@@ -1,4 +1,7 @@
 // A key as a line shows it, laid into a lent buffer whole or not at all.
+
+#![tactic(auto)]
+
 ghost use Rattle.std.specs.Prelude.{◌≡◌};
 ghost use Rattle.foundation.specs.BigEndian.{bytes_of};
 ghost use Rattle.text.specs.Lay.{Lays};

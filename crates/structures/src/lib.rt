@@ -1,4 +1,7 @@
 // Structures: rows whose columns have letters of their own, as the TYPE text lists them.
+
+#![tactic(auto)]
+
 ghost use Rattle.std.specs.Prelude.{◌≡◌, cond, ◌&&◌, ◌≤◌, ◌<◌, eqb, ltb, length};
 ghost use Rattle.value.specs.Value.{column_letters, structured, structures};
 ghost use Rattle.value.specs.Answer.{element_in, shape_in};

@@ -1,4 +1,7 @@
 // The item of a group and tag, found through rows: its header, and where it stands in the payload.
+
+#![tactic(auto)]
+
 ghost use Rattle.std.specs.Prelude.{◌≡◌};
 ghost use Rattle.tagged.specs.Tagged.{tagged_at, tagged_of, one_number};
 

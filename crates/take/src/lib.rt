@@ -1,4 +1,7 @@
 // What is printed of a packet of a take, laid into a lent buffer: its line, and its listing or that of its front.
+
+#![tactic(auto)]
+
 ghost use Rattle.std.specs.Prelude.{◌≡◌, false, length, take};
 ghost use Rattle.reading.specs.Walk.{reading_of, room_of};
 ghost use Rattle.take.specs.Take.{left_out, Fronts, Takes};

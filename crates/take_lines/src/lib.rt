@@ -1,4 +1,7 @@
 // The lines of a take, laid into a lent buffer: that of a packet, those of a packet over what is held, and the counts.
+
+#![tactic(auto)]
+
 ghost use Rattle.std.specs.Prelude.{[], ◌∷◌};
 ghost use Rattle.numerals.specs.Numerals.{decimal};
 ghost use Rattle.take_lines.specs.Lines.{counts_line, packet_line, totals_line, long_packet, LaysAll};

@@ -1,4 +1,7 @@
 // Values that are several UTF-8 texts.
+
+#![tactic(auto)]
+
 ghost use Rattle.std.specs.Prelude.{◌≡◌, ◌*◌, ◌<◌, take, drop};
 ghost use Rattle.value.specs.Value.{text_of, texts};
 ghost use Rattle.value.specs.Answer.{element_in, shape_in, columns_in};

@@ -1,4 +1,7 @@
 // Texts: how many bytes of a Latin-1 and of a UTF-8 text are kept.
+
+#![tactic(auto)]
+
 ghost use Rattle.std.specs.Prelude.{◌≡◌, length};
 ghost use Rattle.texts.specs.Kept.{kept, up_to_zero};
 

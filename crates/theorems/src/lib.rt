@@ -1,1 +1,3 @@
 // No code: proofs/ has what is shown of all public calls together.
+
+#![tactic(auto)]

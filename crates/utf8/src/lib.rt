@@ -1,4 +1,7 @@
 // Whether texts are well-formed UTF-8.
+
+#![tactic(auto)]
+
 ghost use Rattle.std.specs.Prelude.{◌≡◌, ◌<◌};
 ghost use Rattle.texts.specs.Utf8.{table, begin, next, paid, well_formed};
 ghost use Rattle.texts.specs.Texts.{Chunk, is_well_formed_text, are_well_formed};

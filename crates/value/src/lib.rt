@@ -1,4 +1,7 @@
 // What a value is: what it is called, its rows and columns, and what is answered of it.
+
+#![tactic(auto)]
+
 use elements::Element;
 
 // What a value is called.

@@ -1,4 +1,7 @@
 // Elements, shapes and averages as plain records of numbers, for callers in other languages, as crate `answers` has it.
+
+#![tactic(auto)]
+
 ghost use Rattle.std.specs.Prelude.{◌≡◌};
 ghost use Rattle.value_answers.specs.Answers as tells;
 

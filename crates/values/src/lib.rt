@@ -1,4 +1,7 @@
 // Values: the shape of the value of an item at a place, and its elements by row and column.
+
+#![tactic(auto)]
+
 ghost use Rattle.std.specs.Prelude.{◌≡◌};
 ghost use Rattle.items.specs.At.{found_at};
 ghost use Rattle.values.specs.At.{klv_of_found, element_of_found, shape_of_found, columns_of_found};

@@ -1,4 +1,7 @@
 // A view of an item: the payload that was lent, with the places that a row has. Its methods take it apart and call functions on slice and places.
+
+#![tactic(auto)]
+
 ghost use Rattle.std.specs.Prelude.{◌≡◌};
 ghost use Rattle.items.specs.At.{found_at};
 ghost use Rattle.values.specs.At.{klv_of_found, shape_of_found, columns_of_found, element_of_found};

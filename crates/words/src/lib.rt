@@ -1,4 +1,7 @@
 // What a program takes out of its input: a line of it, a part of a text, and the bytes that a word is in hex.
+
+#![tactic(auto)]
+
 ghost use Rattle.std.specs.Prelude.{◌≡◌, take, drop};
 ghost use Rattle.words.specs.Words.{line_from, is_dash, DecodesWord};
 
