@@ -19,7 +19,7 @@ use values::Headed;
 
 // A whole number.
 #[repr(C)]
-#[derive(Drop)]
+#[derive(Clone, Copy)]
 pub struct WholeAnswer {
     pub kind: u32,
     pub number: u32,
@@ -121,7 +121,7 @@ pub fn of_decoded(x: line::Decoded) -> WholeAnswer
 
 // An item: its header, and the place of that.
 #[repr(C)]
-#[derive(Drop)]
+#[derive(Clone, Copy)]
 pub struct ItemAnswer {
     pub kind: u32,
     pub number: u32,
@@ -191,7 +191,7 @@ pub fn of_headed(x: Headed, at: usize) -> ItemAnswer
 
 // A part of what was lent: where it starts, and how many bytes it has.
 #[repr(C)]
-#[derive(Drop)]
+#[derive(Clone, Copy)]
 pub struct PartAnswer {
     pub kind: u32,
     pub number: u32,

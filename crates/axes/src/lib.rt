@@ -4,7 +4,7 @@
 #![tactic(auto)]
 
 #[repr(C)]
-#[derive(Drop)]
+#[derive(Clone, Copy)]
 pub struct Axes {
     pub first: u8,
     pub second: u8,
@@ -12,14 +12,14 @@ pub struct Axes {
 }
 
 // What ORIN and ORIO name.
-#[derive(Drop)]
+#[derive(Clone, Copy)]
 pub enum Orientations {
     Are { orin: Axes, orio: Axes },
     Refused { number: u32, place: usize },
 }
 
 // The axes that a matrix names.
-#[derive(Drop)]
+#[derive(Clone, Copy)]
 pub enum Orientation {
     Is(Axes),
     Refused { number: u32, place: usize },

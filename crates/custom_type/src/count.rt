@@ -3,7 +3,7 @@ ghost use Rattle.std.specs.Prelude.{◌≡◌, cond, [], ◌-◌};
 ghost use Rattle.custom_type.specs.Held.{count_of, with_digit, next_count};
 
 // What was collected, as a number so far.
-#[derive(Drop)]
+#[derive(Clone, Copy)]
 pub(crate) struct Count {
     // nothing yet: a `+` may come
     pub(crate) empty: bool,

@@ -12,7 +12,7 @@ ghost use Rattle.custom_type.specs.Resolved.{told, laid_if, Resolved};
 use step::Held;
 
 // What a text is written out to.
-#[derive(Drop)]
+#[derive(Clone, Copy)]
 pub enum Expanded {
     // so many characters
     Characters(usize),

@@ -6,7 +6,7 @@ ghost use Rattle.custom_type.specs.Held.{held_of, Turned};
 use crate::count::Count;
 
 // What is held while a text is gone through.
-#[derive(Drop)]
+#[derive(Clone, Copy)]
 pub(crate) struct Held {
     // whether a character was written yet, and the last one, as it is copied
     pub(crate) written: bool,
@@ -17,7 +17,7 @@ pub(crate) struct Held {
 }
 
 // What a character leads to, and the run of one character that it writes.
-#[derive(Drop)]
+#[derive(Clone, Copy)]
 pub(crate) struct Turn {
     pub(crate) held: Held,
     pub(crate) character: u8,

@@ -4,20 +4,20 @@ ghost use Rattle.dates.specs.Fields.{digits, unsigned, year, field, day_of, time
 ghost use Rattle.dates.specs.Bounds.{Field, Below, AYear, DayInRange, TimeInRange};
 
 // What the bytes of one field stand for.
-#[derive(Drop)]
+#[derive(Clone, Copy)]
 pub enum Number {
     Is(u64),
     Unreadable,
 }
 
-#[derive(Drop)]
+#[derive(Clone, Copy)]
 pub struct Day {
     pub year: u64,
     pub month: u64,
     pub day: u64,
 }
 
-#[derive(Drop)]
+#[derive(Clone, Copy)]
 pub struct Time {
     pub hour: u64,
     pub minute: u64,
@@ -25,13 +25,13 @@ pub struct Time {
     pub millisecond: u64,
 }
 
-#[derive(Drop)]
+#[derive(Clone, Copy)]
 pub enum ReadDay {
     Is(Day),
     Unreadable,
 }
 
-#[derive(Drop)]
+#[derive(Clone, Copy)]
 pub enum ReadTime {
     Is(Time),
     Unreadable,

@@ -10,7 +10,7 @@ ghost use Rattle.dates.specs.Date.{date_of};
 
 use fields::{ReadDay, ReadTime};
 
-#[derive(Drop)]
+#[derive(Clone, Copy)]
 pub enum Date {
     Milliseconds(u64),
     // fewer than 16 bytes

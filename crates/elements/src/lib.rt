@@ -13,7 +13,7 @@ use fixed::Exact;
 use foundation::big_endian;
 
 // One element of a value.
-#[derive(Drop)]
+#[derive(Clone, Copy)]
 pub enum Element {
     Signed(i64),
     Unsigned(u64),

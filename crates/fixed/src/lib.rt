@@ -10,7 +10,7 @@ const DIVISOR: i64 = 4294967295;
 
 // A fraction.
 #[repr(C)]
-#[derive(Drop)]
+#[derive(Clone, Copy)]
 pub struct Exact {
     pub numerator: i64,
     pub denominator: u64,

@@ -2,7 +2,7 @@
 use raw_file::Packet;
 
 // How many they are, and whether the file ends with them.
-#[derive(Drop)]
+#[derive(Clone, Copy)]
 pub(crate) struct Held {
     pub count: usize,
     pub ended: bool,

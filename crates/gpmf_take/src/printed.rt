@@ -5,7 +5,7 @@ use take::Taken;
 const MOST_PRINTED: usize = 131072;
 
 // The packets that were read, and those that were refused, so far, and the bytes laid that are to be written.
-#[derive(Drop)]
+#[derive(Clone, Copy)]
 pub(crate) struct Counts {
     pub read: u64,
     pub refused: u64,

@@ -14,14 +14,14 @@ use klv::{Cursor, Header, KLV, MOST_BYTES};
 pub const NO_TYPE: usize = 4294967295;
 
 // Where a TYPE text stands.
-#[derive(Drop)]
+#[derive(Clone, Copy)]
 pub enum TypeText {
     At { start: usize, end: usize },
     Bad,
 }
 
 // Where an item's payload and its TYPE text stand.
-#[derive(Drop)]
+#[derive(Clone, Copy)]
 pub enum Found {
     Item {
         klv: KLV,

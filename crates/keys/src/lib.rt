@@ -11,7 +11,7 @@ ghost use Rattle.keys.specs.Keys.{tags, tag_of, groups, group_of};
 use names::*;
 
 // A known key and its number.
-#[derive(Drop)]
+#[derive(Clone, Copy)]
 struct Known {
     key: u32,
     id: u32,
@@ -105,7 +105,7 @@ pub fn tag_id(key: u32) -> u32
 
 // A group: its number, 0 where its key has none, and its key, which is kept always.
 #[repr(C)]
-#[derive(Drop)]
+#[derive(Clone, Copy)]
 pub struct GroupId {
     pub number: u32,
     pub key: u32,

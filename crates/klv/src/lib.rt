@@ -11,7 +11,7 @@ use foundation::big_endian;
 
 // An item's header: its key as one number, its type byte, and the size and the repeat of its samples.
 #[repr(C)]
-#[derive(Drop)]
+#[derive(Clone, Copy)]
 pub struct KLV {
     pub key: u32,
     pub data_type: u8,
@@ -86,7 +86,7 @@ impl KLV {
 }
 
 // What stands at a place.
-#[derive(Drop)]
+#[derive(Clone, Copy)]
 pub enum Header {
     // an item: its header, and all of its payload behind that
     Item(KLV),
@@ -126,7 +126,7 @@ fn first_header(s: &[u8]) -> Header
 
 // A place in a payload.
 #[repr(C)]
-#[derive(Drop)]
+#[derive(Clone, Copy)]
 pub struct Cursor {
     pub at: usize,
 }

@@ -10,7 +10,7 @@ ghost use Rattle.last_item.specs.LastItem.{told};
 use klv::{Cursor, Header, KLV, MOST_BYTES};
 
 // What the chain ends at.
-#[derive(Drop)]
+#[derive(Clone, Copy)]
 pub enum LastItem {
     // no bytes, so no item
     Nothing,

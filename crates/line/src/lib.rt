@@ -8,14 +8,14 @@ ghost use Rattle.foundation.specs.Digits.{worth_of, are_digits};
 ghost use Rattle.line.specs.Read.{worth_in64, number_in, bytes_in, Decodes};
 
 // A number in a text, or that the text is no number of 64 bits.
-#[derive(Drop)]
+#[derive(Clone, Copy)]
 pub enum Number {
     Is(u64),
     NotOne,
 }
 
 // How many bytes were decoded, or why none.
-#[derive(Drop)]
+#[derive(Clone, Copy)]
 pub enum Decoded {
     Bytes(usize),
     NoRoom,

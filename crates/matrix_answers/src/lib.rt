@@ -7,7 +7,7 @@ ghost use Rattle.matrix_answers.specs.Answers as tells;
 
 // Nine numbers, row by row.
 #[repr(C)]
-#[derive(Drop)]
+#[derive(Clone, Copy)]
 pub struct Matrix {
     pub entries: [f32; 9],
 }

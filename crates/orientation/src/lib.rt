@@ -18,7 +18,7 @@ use tagged::Tagged;
 use value::Read;
 
 // The axes of a group's readings.
-#[derive(Drop)]
+#[derive(Clone, Copy)]
 pub enum Oriented {
     Is(Axes),
     // the group has neither MTRX nor both ORIN and ORIO, or what it has is of a type or size that is not read

@@ -13,7 +13,7 @@ use scaling::Quaternion;
 
 // Three axes.
 #[repr(C)]
-#[derive(Drop)]
+#[derive(Clone, Copy)]
 pub struct AxesAnswer {
     pub kind: u32,
     pub number: u32,
@@ -60,7 +60,7 @@ pub fn of_oriented(x: Oriented) -> AxesAnswer
 
 // The axes of ORIN and of ORIO.
 #[repr(C)]
-#[derive(Drop)]
+#[derive(Clone, Copy)]
 pub struct OrientationsAnswer {
     pub kind: u32,
     pub number: u32,
@@ -94,7 +94,7 @@ pub fn of_orientations(x: Orientations) -> OrientationsAnswer
 
 // A scaled quaternion.
 #[repr(C)]
-#[derive(Drop)]
+#[derive(Clone, Copy)]
 pub struct QuaternionAnswer {
     pub kind: u32,
     pub number: u32,

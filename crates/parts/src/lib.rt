@@ -11,7 +11,7 @@ use value::Count;
 use values::Headed;
 
 // A part of what was lent: where it starts, and how many bytes it has.
-#[derive(Drop)]
+#[derive(Clone, Copy)]
 pub enum Part {
     At { start: usize, length: usize },
     Refused { number: u32, place: usize },

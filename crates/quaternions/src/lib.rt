@@ -29,7 +29,7 @@ fn sixteen(e: Element) -> i16
 }
 
 // A number of 16 bits.
-#[derive(Drop)]
+#[derive(Clone, Copy)]
 enum Number {
     Is(i16),
     Refused { number: u32, place: usize },
@@ -47,7 +47,7 @@ fn number_at(s: &[u8], at: usize, row: usize, column: usize) -> Number
 }
 
 // A row of quaternions, scaled.
-#[derive(Drop)]
+#[derive(Clone, Copy)]
 pub enum ScaledRow {
     Is(Quaternion),
     // the group has no quaternions
@@ -55,7 +55,7 @@ pub enum ScaledRow {
     Refused { number: u32, place: usize },
 }
 
-#[derive(Drop)]
+#[derive(Clone, Copy)]
 enum Scale {
     By(f64),
     Refused { number: u32, place: usize },

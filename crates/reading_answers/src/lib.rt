@@ -13,7 +13,7 @@ use rows::{Row, RowAt};
 
 // A row.
 #[repr(C)]
-#[derive(Drop)]
+#[derive(Clone, Copy)]
 pub struct RowAnswer {
     pub kind: u32,
     pub number: u32,
@@ -55,7 +55,7 @@ pub fn of_row_at(x: RowAt) -> RowAnswer
 
 // What a payload is read as: so many rows, and so many headers read.
 #[repr(C)]
-#[derive(Drop)]
+#[derive(Clone, Copy)]
 pub struct MetadataAnswer {
     pub kind: u32,
     pub number: u32,
@@ -103,7 +103,7 @@ pub fn to_metadata(a: MetadataAnswer) -> Metadata
 
 // A packet of a raw file, and the cursor to go on with.
 #[repr(C)]
-#[derive(Drop)]
+#[derive(Clone, Copy)]
 pub struct PacketAnswer {
     pub kind: u32,
     pub number: u32,
@@ -151,7 +151,7 @@ pub fn of_in_window(x: InWindow) -> PacketAnswer
 
 // A packet of a raw file, what its bytes are read as, and the cursor to go on with.
 #[repr(C)]
-#[derive(Drop)]
+#[derive(Clone, Copy)]
 pub struct PacketMetadataAnswer {
     pub kind: u32,
     pub number: u32,

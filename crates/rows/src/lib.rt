@@ -9,7 +9,7 @@ ghost use Rattle.rows.specs.Lookup.{matching, lookup_of};
 
 // What the walk says of an item.
 #[repr(C)]
-#[derive(Drop)]
+#[derive(Clone, Copy)]
 pub struct Row {
     pub place: u32,
     pub group_kind: u32,
@@ -78,7 +78,7 @@ fn take_row(rows: &[u32], n: usize) -> Row
 }
 
 // What stands at a row's index.
-#[derive(Drop)]
+#[derive(Clone, Copy)]
 pub enum RowAt {
     Is(Row),
     // the lent numbers have no room for such a row
@@ -118,7 +118,7 @@ fn matches(row: Row, group_kind: u32, group_key: u32, tag: u32, key: u32) -> boo
 }
 
 // What a lookup finds.
-#[derive(Drop)]
+#[derive(Clone, Copy)]
 pub enum Found {
     // the index of a row
     At(usize),

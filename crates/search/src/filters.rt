@@ -9,7 +9,7 @@ fn wide(byte: u8) -> u16
 }
 
 // Two words of two letters of DEVC, of which the one ends where the other begins: where that is, the bits in which they agree, and what those are.
-#[derive(Drop)]
+#[derive(Clone, Copy)]
 pub(crate) struct Words {
     at: usize,
     bits: u16,
@@ -55,7 +55,7 @@ pub(crate) fn by_words(s: &[u8], from: usize, words: Words, count: usize) -> boo
 }
 
 // A letter of DEVC: where it stands in it, and which it is.
-#[derive(Drop)]
+#[derive(Clone, Copy)]
 struct Letter {
     at: usize,
     is: u8,
@@ -146,7 +146,7 @@ pub(crate) fn pass(s: &[u8], from: usize, end: usize, which: u8) -> usize
 // ---- the filter in use
 
 // Which filter is in use, 6 being none, and how far it is trusted. Each choice is right, so nothing is promised of it.
-#[derive(Drop)]
+#[derive(Clone, Copy)]
 pub(crate) struct Filter {
     pub(crate) which: u8,
     pub(crate) trust: usize,

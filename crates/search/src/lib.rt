@@ -12,7 +12,7 @@ ghost use Rattle.search.specs.Search.{devc, begins, find_from, devc_or_end, or_e
 use filters::Filter;
 
 // What a search finds.
-#[derive(Drop)]
+#[derive(Clone, Copy)]
 pub enum Found {
     // the place of a DEVC
     At(usize),

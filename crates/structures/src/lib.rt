@@ -12,14 +12,14 @@ use klv::{KLV, wider};
 use value::{Kind, Read, Shape, Shaped};
 
 // A row as its letters make it: the columns, and their bytes.
-#[derive(Drop)]
+#[derive(Clone, Copy)]
 pub struct Row {
     pub columns: usize,
     pub width: usize,
 }
 
 // A column of a row: its letter, and the bytes before it.
-#[derive(Drop)]
+#[derive(Clone, Copy)]
 pub struct Letter {
     pub letter: u8,
     pub before: usize,

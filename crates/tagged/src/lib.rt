@@ -10,7 +10,7 @@ use rows::{Found, Row, RowAt};
 use values::Headed;
 
 // What a group has of a tag.
-#[derive(Drop)]
+#[derive(Clone, Copy)]
 pub enum Tagged {
     // the item of the last such row
     Is { klv: KLV, place: u32 },

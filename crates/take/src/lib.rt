@@ -10,7 +10,7 @@ use metadata::Metadata;
 
 // A packet that was laid: the place behind it, and whether it was accepted.
 #[repr(C)]
-#[derive(Drop)]
+#[derive(Clone, Copy)]
 pub struct Taken {
     pub end: usize,
     pub accepted: bool,

@@ -8,7 +8,7 @@ ghost use Rattle.texts.specs.Texts.{Chunk, is_well_formed_text, are_well_formed}
 ghost use Rattle.utf8.specs.Expected.{owed, owed_behind, ascii};
 
 // What the next byte of a text has to be.
-#[derive(Drop)]
+#[derive(Clone, Copy)]
 enum Expected {
     // the first of a sequence
     First,

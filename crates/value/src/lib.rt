@@ -5,7 +5,7 @@
 use elements::Element;
 
 // What a value is called.
-#[derive(Drop)]
+#[derive(Clone, Copy)]
 pub enum Kind {
     Single,
     List,
@@ -22,34 +22,34 @@ pub enum Kind {
 }
 
 // Rows, and columns in the first of them: each row has as many, but for those of several texts (`Texts`).
-#[derive(Drop)]
+#[derive(Clone, Copy)]
 pub struct Shape {
     pub kind: Kind,
     pub rows: usize,
     pub columns: usize,
 }
 
-#[derive(Drop)]
+#[derive(Clone, Copy)]
 pub enum Shaped {
     Is(Shape),
     Refused { number: u32, place: usize },
 }
 
 // How many there are: the columns of a row, or all elements.
-#[derive(Drop)]
+#[derive(Clone, Copy)]
 pub enum Count {
     Are(usize),
     Refused { number: u32, place: usize },
 }
 
-#[derive(Drop)]
+#[derive(Clone, Copy)]
 pub enum Read {
     Is(Element),
     Refused { number: u32, place: usize },
 }
 
 // Rows of elements that are all of one letter.
-#[derive(Drop)]
+#[derive(Clone, Copy)]
 pub struct Grid {
     pub kind: Kind,
     pub rows: usize,
@@ -58,7 +58,7 @@ pub struct Grid {
 }
 
 // What is to be read of an item, by the letter of its type.
-#[derive(Drop)]
+#[derive(Clone, Copy)]
 pub enum Plan {
     // rows of elements of one letter
     Even(Grid),

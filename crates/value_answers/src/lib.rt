@@ -12,7 +12,7 @@ use value::{Kind, Read, Shaped};
 
 // A number in f64.
 #[repr(C)]
-#[derive(Drop)]
+#[derive(Clone, Copy)]
 pub struct RealAnswer {
     pub kind: u32,
     pub number: u32,
@@ -52,7 +52,7 @@ pub const DOUBLE: u32 = 3;
 
 // One number of a value: the field that its form names holds it, and the others are 0.
 #[repr(C)]
-#[derive(Drop)]
+#[derive(Clone, Copy)]
 pub struct Number {
     pub form: u32,
     pub single: f32,
@@ -86,7 +86,7 @@ pub fn of_element(x: Element) -> Number
 
 // An element of a value.
 #[repr(C)]
-#[derive(Drop)]
+#[derive(Clone, Copy)]
 pub struct ElementAnswer {
     pub kind: u32,
     pub number: u32,
@@ -121,7 +121,7 @@ pub fn of_read(x: Read) -> ElementAnswer
 
 // What a value is called, its rows, and the columns of its first row.
 #[repr(C)]
-#[derive(Drop)]
+#[derive(Clone, Copy)]
 pub struct ShapeAnswer {
     pub kind: u32,
     pub number: u32,

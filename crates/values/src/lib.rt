@@ -11,7 +11,7 @@ use klv::KLV;
 use value::{Count, Read, Shaped};
 
 // A header, by its key, type, size and repeat.
-#[derive(Drop)]
+#[derive(Clone, Copy)]
 pub enum Headed {
     Is(KLV),
     Refused { number: u32, place: usize },

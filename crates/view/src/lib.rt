@@ -13,7 +13,7 @@ use value::{Count, Read, Shaped};
 use values::Headed;
 
 // An item in a payload: its place, and that of the TYPE in force.
-#[derive(Drop)]
+#[derive(Clone, Copy)]
 pub struct View<'a> {
     pub payload: &'a [u8],
     pub at: usize,

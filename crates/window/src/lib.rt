@@ -22,7 +22,7 @@ const OVER: usize = Packets::HEADER + MOST_HELD + LAST_BYTES + 7;
 // The place of the window's first byte in the file, where the cutting or the search goes on in the window, and where the packets start in
 // the file whose end is sought: 0 for none. At most two overlap.
 #[repr(C)]
-#[derive(Drop)]
+#[derive(Clone, Copy)]
 pub struct Places {
     pub base: u64,
     pub at: usize,
@@ -31,7 +31,7 @@ pub struct Places {
 }
 
 // What is done next, with the places afterwards.
-#[derive(Drop)]
+#[derive(Clone, Copy)]
 pub enum Step {
     // a packet is told, which the window holds: its places there, and its start in the file
     Held {
