@@ -1,0 +1,12 @@
+-- `pieces` meets its contract: those that are counted and those that are left are all, and one is counted in both. Assumes nothing.
+use Prim.Native.Nat.{◌+◌, ◌-◌, ◌≤◌}
+use mathlib.Core.Path.{◌≡◌}
+use lib.ListN.{length, drop}
+use Rattle.foundation.specs.Pieces.{pieces_of}
+use Rattle.pieces.proofs.pieces.Given as goal
+
+abbrev pub invariant-loop-i : goal.invariant-loop-i
+invariant-loop-i l = (l.count + length (pieces_of l.b (drop l.i l.s)) ≡ length (pieces_of l.b l.s) + 1) × (l.count ≤ l.i + 1) × (l.i ≤ length l.s)
+
+abbrev pub decreases-loop-i : goal.decreases-loop-i
+decreases-loop-i l = length l.s - l.i
