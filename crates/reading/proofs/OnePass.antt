@@ -7,7 +7,6 @@ use lib.Dec.{eqb}
 use Rattle.klv.specs.declared.KLV.{KLV}
 use Rattle.klv.specs.Level.{Level, left, broken, node, items_of}
 use Rattle.reading.specs.Refusal.{too_deep, deepest}
-use Rattle.reading.specs.Last as Last
 use Rattle.reading.specs.Last.{Last, none, last, or_else, last_item}
 use Rattle.reading.specs.Record.{callers, named, TypeInForce, Record}
 use Rattle.reading.specs.Walk.{Role, empty, container, type_item, row_item, role_of, item_headers, Spot, inside, type_after, after, enter, refuse, group_inside, outermost, accepted, walk, reading_of}

@@ -16,7 +16,6 @@ use Rattle.klv.specs.Level.{Level, left, broken, node, items_of}
 use Rattle.klv.proofs.Item.{item_lengths}
 use Rattle.klv.proofs.Level.{Comes, of_node}
 use Rattle.reading.specs.Refusal.{Refusal, too_long, past_end, left_over, too_deep, no_room_left, deepest}
-use Rattle.reading.specs.Last as Last
 use Rattle.reading.specs.Last.{Last, none, last, or_else, last_item}
 use Rattle.reading.specs.Record.{named, Record}
 use Rattle.reading.specs.Walk.{Role, empty, container, type_item, row_item, role_of, Spot, outermost, inside, after, Entry, enter, refuse, group_inside, entry}
