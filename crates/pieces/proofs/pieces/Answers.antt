@@ -1,9 +1,8 @@
-use Prim.Native.Nat.{◌-◌}
-use mathlib.Core.Logic.{⊎_elim}
 use native.Mathlib.Numerals.{add-one}
 use native.Mathlib.Omega.{arith}
 use Rattle.pieces.proofs.Splitting.{piece_ends, piece_goes_on, last_piece}
 use Rattle.pieces.proofs.pieces.Goals as goal
+use Rattle.pieces.proofs.pieces.Goals.{then-s-i, else-s-i}
 
 pub loop-i-init : goal.loop-i-init
 loop-i-init c = omega arith
@@ -25,10 +24,10 @@ loop-i-preserved c =
     let a = c.args in
     let i = c.loop-i.i in
     rw (add-one i)
-    (⊎_elim
-    (λ w. omega (arith, piece_ends a.b a.s.now i (omega arith) w.0.taken))
-    (λ w. omega (arith, piece_goes_on a.b a.s.now i (omega arith) w.0.left))
-    c.if-s-i.branch)
+    (elim c.if-s-i.branch [
+      | then-s-i w ↦ omega (arith, piece_ends a.b a.s.now i (omega arith) w.if-s-i.true)
+      | else-s-i w ↦ omega (arith, piece_goes_on a.b a.s.now i (omega arith) w.if-s-i.false)
+    ])
 
 pub returns : goal.returns
 returns c = omega (arith, last_piece c.args.b c.args.s.now c.loop-i.i (omega arith))
