@@ -1,4 +1,4 @@
-use Prim.Native.Nat.{ℕ, ◌-◌, ◌<◌}
+use Prim.Native.Nat.{ℕ, ◌<◌}
 use mathlib.Core.Path.{◌≡◌, refl, ap, ◌∙◌}
 use mathlib.Core.List.{List, [], ◌∷◌, ◌++◌, append-nil}
 use native.Mathlib.Omega.{arith}
@@ -47,5 +47,3 @@ returns c =
     let a = c.args in
     let all : l.i ≡ length a.part.now = omega arith in
     l.invariant.2 ∙ ap (λ (n : ℕ). replicate n a.character ++ drop n a.part.now) all ∙ rw (drop-length, append-nil)
-
--- no goal today for same-length-2: c.before.loop.invariant.1

@@ -13,7 +13,7 @@ pub write-requires : goal.write-requires
 write-requires c =
     let e = expanded c.args.text.now in
     let fit : fits e ≡ true = (told_characters e c.in-Characters.field-0 (sym c.measure-answer.ensures ∙ c.in-Characters.is)).0 in
-    omega (arith, leb-true (length e) 256 fit, c.write-arg-1.given.0.1)
+    omega (arith, leb-true (length e) 256 fit)
 
 pub returns-in-Characters : goal.returns-in-Characters
 returns-in-Characters c =

@@ -59,8 +59,8 @@ loop-i-preserved c =
     let room : l.at + k ≤ length l.out = omega (arith, end (goal.at.loop-i-preserved c).After-step-turn) in
     let run = c.fill in (
       turn (goal.at.loop-i-preserved c).After-step-turn,
-      rw l.invariant.1 at c.out-1.given.1,
-      filled (up_to s l.i) (up_to s (l.i + 1)) t a.out.now l.out run.new.0 l.at k f l.invariant.0.long times room l.invariant.2 run.ensures,
+      omega arith,
+      filled (up_to s l.i) (up_to s (l.i + 1)) t a.out.now l.out run.new.part l.at k f l.invariant.0.long times room l.invariant.2 run.ensures,
     )
 
 pub returns : goal.returns
@@ -72,5 +72,3 @@ returns c =
     l.invariant.2
     ∙ ap (λ (n : ℕ). (up_to s l.i).written ++ drop n a.out.now) l.invariant.0.long
     ∙ ap (λ (w : List ℕ). w ++ drop (length w) a.out.now) all
-
--- no goal today for same-length: c.before.loop.invariant.1

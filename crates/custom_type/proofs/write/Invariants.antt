@@ -1,5 +1,5 @@
 -- `write` meets its contract: what the characters gone through stand for is laid in front, and the rest is as it was. Assumes nothing.
-use Prim.Native.Nat.{◌+◌, ◌-◌}
+use Prim.Native.Nat.{◌-◌}
 use mathlib.Core.Path.{◌≡◌}
 use mathlib.Core.List.{◌++◌}
 use lib.ListN.{length, drop}
