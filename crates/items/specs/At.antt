@@ -11,7 +11,7 @@ use Rattle.texts.specs.Kept.{kept}
 
 -- ---- the TYPE text that a place names
 
--- a text, or no whole one_text_lem TYPE with payload
+-- a text, or no whole one-text TYPE with payload
 pub data Named : Type 0 where
   named : List ℕ → Named
   bad : Named

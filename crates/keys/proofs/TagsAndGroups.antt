@@ -8,7 +8,7 @@ use Rattle.keys.specs.Keys.{tags, tag_of, groups, group_of}
 use Rattle.keys.specs.declared.GroupId.{GroupId}
 use Rattle.keys.proofs.Tables.{Says, says}
 
--- each of the twenty_six keys is found with its tag, every other key gives 0, and a tag that is not 0 belongs to a listed key
+-- each of the twenty-six keys is found with its tag, every other key gives 0, and a tag that is not 0 belongs to a listed key
 pub tags_say : Says tags
 unfolding found tags
 tags_say = says tags tt

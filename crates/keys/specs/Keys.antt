@@ -5,7 +5,7 @@ use Rattle.keys.specs.Tags.{data_tag, unit_tag, matrix_tag, scale_tag, timestamp
 use Rattle.keys.specs.declared.GroupId.{GroupId}
 use Rattle.keys.specs.declared.Known.{Known}
 
--- the twenty_six keys that have a tag, as document 01 lists them (Items and the walk)
+-- the twenty-six keys that have a tag, as document 01 lists them (Items and the walk)
 unfoldable pub tags : List Known
 tags =
     sharing data_tag (keys_in "GYRO ACCL GRAV WBAL ISOE SHUT MWET IORI CORI AALP WNDM UNIF WRGB GPS5 FASC")
