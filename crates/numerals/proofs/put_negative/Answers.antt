@@ -42,5 +42,3 @@ returns c =
     in
     let shorter : length a.out.now < a.at + length (45 ∷ decimal a.n) = omega arith in
     lays_nothing a.out.now a.at (45 ∷ decimal a.n) refl (lt-leb _ _ shorter)
-
--- no goal today for same-length: let a = c.before.before.before.before.before.before.before.before.before.args in c.before.before.put-digits.auto.0 ∙ length-set a.out.now a.at _

@@ -42,5 +42,3 @@ returns c =
     let a = c.args in
     let none : c.loop-left.left ≡ 0 = omega arith in
     all_laid a.out.now a.at a.n a.base a.count c.loop-left.out c.loop-left.rest (rw none at c.loop-left.invariant)
-
--- no goal today for same-length: omega arith
