@@ -1,0 +1,14 @@
+-- `fixed_exact` meets its contract: the two parts are handed on. Assumes nothing.
+use Prim.Native.Nat.{◌%◌}
+use mathlib.Core.Path.{ap, ◌∙◌}
+use borrow.Author.Rules.{rules}
+use lib.IntN.{ℤ}
+use mir.Syntax.{w32}
+use mir.ValLaws.{to_z-of_z}
+use Rattle.fixed.specs.Fixed.{q31_32_exact}
+use Rattle.elements.specs.Element.{exact_of}
+use Rattle.elements.proofs.fixed_exact.Goals as goal
+
+pub returns : goal.returns
+unfolding exact_of
+returns c = c.q31_32_exact.ensures ∙ ap (λ (z : ℤ). q31_32_exact z (c.args.n % 0x1_0000_0000)) (to_z-of_z w32 c.upper.result (search rules) ∙ c.upper.ensures)
