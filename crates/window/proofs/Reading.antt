@@ -10,7 +10,7 @@ use Rattle.raw_file.specs.declared.InWindow.TheVariants as in_window
 use Rattle.raw_file.specs.Window.{in_window_of}
 use Rattle.raw_file.proofs.Stream.{not_more}
 use Rattle.window.specs.declared.Places.{Places}
-use Rattle.window.specs.declared.Step.TheVariants.{Held, Long, Read, End}
+use Rattle.window.specs.declared.Step.TheVariants.{Held, Long, Read}
 use Rattle.window.specs.Steps.{most_held, last_bytes, over_held, in_file, cut_from, read_from, tell_packet, read_past, tell_next, seek_end, next_step}
 
 module _ (window : List ℕ) (p : Places) (from : ℕ) (rest : Places) where

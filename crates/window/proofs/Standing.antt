@@ -61,7 +61,7 @@ module _ (file : List ℕ) where
 
     -- what the window tells
     pub told_in_lem : (more : Bool) → (more ≡ false → toCome ≡ []) → packets_from file (p.at + p.base) ≡ told_and_left file p.base (in_window_of window more p.at)
-    told_in_lem more none = Stream.told_in file window toCome p.base stands.inside stands.holds p.at more none
+    told_in_lem more none = Stream.told_in_lem file window toCome p.base stands.inside stands.holds p.at more none
 
     -- so many bytes are let go of, and what is read stands behind the others
     pub moves : (from : ℕ) → from ≤ length window → (read reads : List ℕ) → toCome ≡ read ++ reads → drop (p.base + from) file ≡ (drop from window ++ read) ++ reads
