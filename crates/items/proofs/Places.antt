@@ -14,7 +14,7 @@ use Rattle.klv.specs.declared.Header.TheVariants.{Item, Short, Past}
 use Rattle.klv.specs.Item.{data_len, First, item, first_item, payload_at, next_at}
 use Rattle.klv.specs.Header.{header_at}
 use Rattle.klv.specs.OneText.{type_text}
-use Rattle.klv.proofs.Item.{item_lengths, by_first_lem, first_few, first_item_lem}
+use Rattle.klv.proofs.Item.{item_lengths, by_first_lem, first_few}
 use Rattle.klv.proofs.Place.{at_item}
 use Rattle.klv.proofs.Place as Place
 use Rattle.texts.specs.Kept.{kept}
