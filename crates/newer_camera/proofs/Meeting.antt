@@ -46,7 +46,7 @@ module _ (f : Record → Record) where
   map_length [] = refl
   map_length (r ∷ rs) = let e = map_length rs in omega arith
 
-  map_old : {rs : List Record} {r : Record} → Memᴰ r rs → Memᴰ (f r) (map f rs)
+  map_old : {r : Record} {rs : List Record} → Memᴰ r rs → Memᴰ (f r) (map f rs)
   map_old (Memᴰ.head e) = Memᴰ.head (ap f e)
   map_old (Memᴰ.tail m) = Memᴰ.tail (map_old m)
 

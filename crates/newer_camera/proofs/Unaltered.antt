@@ -7,7 +7,7 @@ use native.Mathlib.Omega.{arith}
 use lib.Dec.{ltb, leb}
 use lib.ListN.{length}
 use Rattle.klv.specs.declared.KLV.{KLV}
-use Rattle.klv.specs.Item.{header_length, data_len, aligned, next_at, whole}
+use Rattle.klv.specs.Item.{header_length, data_len, aligned, next_at}
 use Rattle.klv.specs.Level.{Level, items_of}
 use Rattle.reading.specs.Refusal.{too_long, number, most_bytes}
 use Rattle.reading.specs.Last.{Last, last, or_else, last_item}
@@ -17,7 +17,7 @@ use Rattle.reading.specs.Walk.{Role, empty, container, type_item, row_item, role
 use Rattle.reading.specs.Walk.{Outcome, accepted, refused, in_front, and_then, around, row_outcome, entered, by_role, item_outcome, walk, walk_item, reading_of}
 use Rattle.reading.specs.Answer.{refusal, answer}
 use Rattle.reading.proofs.Role.{Means, role_means}
-use Rattle.newer_camera.specs.PutIn.{IsNew, Matches, PutIn, inside}
+use Rattle.newer_camera.specs.PutIn.{IsNew, Matches, PutIn}
 use Rattle.newer_camera.specs.Rows.{put_before, moved_by, moved}
 use Rattle.newer_camera.specs.OtherBytes.{OtherBytes, in_nothing, in_new, behind_old, inside_old, put_again}
 use Rattle.newer_camera.proofs.Put.{long, new_level, behind_level, inside_level}
