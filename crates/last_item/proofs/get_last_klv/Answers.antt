@@ -1,4 +1,5 @@
--- `get_last_klv` meets its contract: over the limit it is refused, else it is the last item from the start on. Assumes nothing.
+-- `get_last_klv` meets its contract: over the limit it is refused, else it is the last item from the start on.
+-- Assumes nothing.
 use mathlib.Core.Path.{sym, ap, ◌∙◌}
 use Rattle.reading.proofs.Payload.{last_long, last_within}
 use Rattle.last_item.specs.LastItem.{told}

@@ -1,4 +1,5 @@
--- `last_item` meets its contract: the loop keeps what the chain has met so far, and what is left of the bytes falls. Assumes nothing.
+-- `last_item` meets its contract: the loop keeps what the chain has met so far, and what is left of the bytes falls.
+-- Assumes nothing.
 use Prim.Native.Nat.{◌-◌}
 use lib.ListN.{length}
 use Rattle.last_item.proofs.Chain.{SoFar}

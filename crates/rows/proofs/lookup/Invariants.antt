@@ -1,4 +1,5 @@
--- `lookup` meets its contract. The loop's invariant: what is found among all the rows is what is found among those that are left. Assumes nothing.
+-- `lookup` meets its contract. The loop's invariant: what is found among all the rows is what is found among those
+-- that are left. Assumes nothing.
 use Prim.Native.Nat.{◌≤◌}
 use mathlib.Core.Path.{◌≡◌}
 use Rattle.rows.specs.Lookup.{lookup_of}

@@ -37,5 +37,3 @@ pub returns : goal.returns
 returns c =
     let a = c.args in
     put_kept a.out.now a.n a.row (omega arith)
-
--- no goal today for same-length: simp length-set
