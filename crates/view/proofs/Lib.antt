@@ -1,4 +1,0 @@
-pub mod Held
-pub mod Numbers
-pub mod Thin
-pub mod Walks
