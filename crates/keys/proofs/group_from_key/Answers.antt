@@ -1,5 +1,5 @@
 use mathlib.Core.Path.{◌≡◌, ap}
-use Prim.Native.Nat.{ℕ, ◌-◌}
+use Prim.Native.Nat.{ℕ}
 use native.Mathlib.Omega.{arith}
 use Rattle.keys.specs.Keys.{groups}
 use Rattle.keys.specs.declared.GroupId.{GroupId}
@@ -35,5 +35,3 @@ loop-i-preserved c =
 pub returns : goal.returns
 unfolding groups
 returns c = group (none groups _ _ c.loop-i.i (omega arith) c.loop-i.invariant)
-
--- no goal today for add-i: omega arith

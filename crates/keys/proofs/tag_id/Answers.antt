@@ -1,4 +1,3 @@
-use Prim.Native.Nat.{◌-◌}
 use native.Mathlib.Omega.{arith}
 use Rattle.keys.specs.Keys.{tags}
 use Rattle.keys.proofs.Search.{start, hit, miss, none}
@@ -29,5 +28,3 @@ loop-i-preserved c =
 pub returns : goal.returns
 unfolding tags
 returns c = none tags _ _ c.loop-i.i (omega arith) c.loop-i.invariant
-
--- no goal today for add-i: omega arith

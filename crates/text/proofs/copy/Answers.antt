@@ -1,4 +1,4 @@
-use Prim.Native.Nat.{ℕ, suc, ◌+◌, ◌-◌}
+use Prim.Native.Nat.{ℕ, suc, ◌+◌}
 use mathlib.Core.Path.{◌≡◌, refl, ◌∙◌}
 use native.Mathlib.Numerals.{add-one}
 use native.Mathlib.Omega.{arith}
@@ -41,5 +41,3 @@ returns c =
     let l = c.loop-i in
     let all : l.i ≡ length a.text.now = omega arith in
     l.invariant.1 ∙ rw (all, take-length)
-
--- no goal today for same-length: omega arith
