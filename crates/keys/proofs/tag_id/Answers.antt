@@ -1,4 +1,3 @@
-use Prim.Native.Nat.{◌-◌}
 use native.Mathlib.Omega.{arith}
 use Rattle.keys.specs.Keys.{tags}
 use Rattle.keys.proofs.Search.{start, hit, miss, none}
