@@ -1,6 +1,8 @@
-# Reads a file of a library, laid out, and prints what hands on the functions that it exports: awk -v within=CRATE::MODULE -f c-faces.awk FILE
-# The head's comment and the imports stay as they are, and so do of each exported function the comment, the attributes but for those that are for its proof, the
-# signature and the clauses; its body becomes the call of it. All else is left out.
+# Reads a file of a library, laid out, and prints what hands on the functions that it exports:
+#   awk -v within=CRATE::MODULE -f c-faces.awk FILE
+# The head's comment and the imports stay as they are, and so do of each exported function the comment, the attributes
+# but for those that are for its proof, the signature and the clauses; its body becomes the call of it. All else is left
+# out.
 
 # The parameters' names, with commas between them, of a signature that begins at its bracket.
 function names_in(signature,    depth, i, c, name, names, is_name) {

@@ -1,5 +1,6 @@
 # Names that a file brings by `use` or `ghost use` and does not use, a line each: awk -f imports.awk FILE ..
-# What `pub use` brings is handed on. An operator, as ◌≡◌, is used where each of its parts is. Aliases, as in `use M as m`, count as names.
+# What `pub use` brings is handed on. An operator, as ◌≡◌, is used where each of its parts is. Aliases, as in
+# `use M as m`, count as names.
 
 function report(    name, part, parts, n, used) {
     for (name in brought) {

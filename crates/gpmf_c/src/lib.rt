@@ -1,5 +1,6 @@
-// The library for other languages, as C links it: each function that `gpmf_basics`, `gpmf_reading` and `gpmf_values` export, with the same clauses, and as its body the call of it.
-// Rattle makes a static library of a crate that no other uses, and exports what stands in it; `tools/c-faces` writes the files beside this one.
+// The library for other languages, as C links it: each function that `gpmf_basics`, `gpmf_reading` and `gpmf_values`
+// export, with the same clauses, and as its body the call of it. A static library exports what stands in it, and no crate
+// can use one. `tools/c-faces` writes the files beside this one.
 
 #![tactic(auto)]
 
