@@ -1,9 +1,10 @@
 # Names that a file brings by `use` or `ghost use` and does not use, a line each: awk -f imports.awk FILE ..
-# What `pub use` brings is handed on. An operator, as _≡_, is used where each of its parts is. Aliases, as in `use M as m`, count as names.
+# What `pub use` brings is handed on. An operator, as ◌≡◌, is used where each of its parts is. Aliases, as in
+# `use M as m`, count as names.
 
 function report(    name, part, parts, n, used) {
     for (name in brought) {
-        n = split(name, parts, "_")
+        n = split(name, parts, /◌/)
         used = 1
         if (name in word) continue
         if (n < 2) used = 0
@@ -32,7 +33,11 @@ FNR == 1 { if (file != "") report(); file = FILENAME }
     next
 }
 
-/^use .* as [^ ]+$/ { bring($NF); next }
+/^(ghost )?use [^:]* as [^ ]+$/ {
+    sub(/;$/, "", $NF)
+    bring($NF)
+    next
+}
 
 /^(pub )?use / { next }
 

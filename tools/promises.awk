@@ -34,7 +34,7 @@ function is_settled(cell,    part) {
 }
 
 # A line of the exported functions: function | call | told as.
-function exported_line(    part, path, theorem) {
+function exported_line(    part, path) {
     n = split($0, cell, "|")
     if (n != 5) fault("a line of exported functions has " n - 2 " cells, and not 3: " $0)
     for (i = 2; i < n; i++) if (cell[i] ~ /^[ \t]*$/) fault("a cell of an exported function is empty: " $0)
@@ -42,9 +42,7 @@ function exported_line(    part, path, theorem) {
     if (cell[2] ~ /`/) {
         if (("export " section " " part[2]) in there) promised["export " section " " part[2]]
         else fault("crates/" section " exports no `" part[2] "`")
-        theorem = part[2]
-        gsub(/_/, "-", theorem)
-        if (!(("theorem " theorem) in there)) fault("`" part[2] "` has no theorem of one answer")
+        if (!(("theorem " part[2]) in there)) fault("`" part[2] "` has no theorem of one answer")
     }
     split(cell[3], part, "`")
     split(part[2], path, "::")
