@@ -1,4 +1,5 @@
--- `decimal_places` meets its contract: the digits counted and those of the rest are the number's, and the last is counted from the start. Assumes nothing.
+-- `decimal_places` meets its contract: the digits counted and those of the rest are the number's, and the last is
+-- counted from the start. Assumes nothing.
 use Prim.Native.Nat.{◌+◌, ◌≤◌}
 use mathlib.Core.Path.{◌≡◌}
 use lib.ListN.{length}

@@ -1,4 +1,5 @@
--- `put_digits` meets its contract: what `has_room` found decides, and `spell` lays as many digits as it is asked. Assumes nothing.
+-- `put_digits` meets its contract: what `has_room` found decides, and `spell` lays as many digits as it is asked.
+-- Assumes nothing.
 use Prim.Native.Nat.{◌+◌, ◌≤◌}
 use mathlib.Core.Path.{sym, ◌∙◌}
 use native.Mathlib.Omega.{arith}

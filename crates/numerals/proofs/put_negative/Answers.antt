@@ -1,4 +1,5 @@
--- `put_negative` meets its contract: where both fit, the minus and the digits behind it are the two joined. Assumes nothing.
+-- `put_negative` meets its contract: where both fit, the minus and the digits behind it are the two joined. Assumes
+-- nothing.
 use Prim.Native.Nat.{◌+◌, ◌≤◌, ◌<◌}
 use mathlib.Core.Path.{refl, sym, ◌∙◌}
 use mathlib.Core.List.{[], ◌∷◌}

@@ -1,4 +1,5 @@
--- `pieces` meets its contract: those that are counted and those that are left are all, and one is counted in both. Assumes nothing.
+-- `pieces` meets its contract: those that are counted and those that are left are all, and one is counted in both.
+-- Assumes nothing.
 use Prim.Native.Nat.{◌+◌, ◌-◌, ◌≤◌}
 use mathlib.Core.Path.{◌≡◌}
 use lib.ListN.{length, drop}

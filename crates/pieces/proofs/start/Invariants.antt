@@ -1,4 +1,5 @@
--- `start` meets its contract: the piece asked is among those that are left, as many further as turns are left. Assumes nothing.
+-- `start` meets its contract: the piece asked is among those that are left, as many further as turns are left. Assumes
+-- nothing.
 use mathlib.Core.Path.{◌≡◌}
 use mathlib.Core.List.{[]}
 use lib.ListN.{get_or}

@@ -1,4 +1,5 @@
--- `seek` meets its contract: in the last three places there is no room, and before them the near places and then those behind are searched. Assumes nothing.
+-- `seek` meets its contract: in the last three places there is no room, and before them the near places and then those
+-- behind are searched. Assumes nothing.
 use Prim.Native.Nat.{◌-◌}
 use mathlib.Core.Path.{refl, ◌∙◌, sym, ap}
 use native.Mathlib.Omega.{arith}

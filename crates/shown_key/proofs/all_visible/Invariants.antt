@@ -1,4 +1,5 @@
--- `all_visible` meets its contract. The loop's invariant: the bytes passed can be seen, so those that are left decide. Assumes nothing.
+-- `all_visible` meets its contract. The loop's invariant: the bytes passed can be seen, so those that are left decide.
+-- Assumes nothing.
 use Prim.Native.Nat.{◌-◌, ◌≤◌}
 use mathlib.Core.Path.{◌≡◌}
 use lib.ListN.{length, drop}

@@ -1,4 +1,5 @@
--- `put_packet` meets its contract: what the walk answered, laid with the rows that it left, or with the front. Assumes nothing.
+-- `put_packet` meets its contract: what the walk answered, laid with the rows that it left, or with the front. Assumes
+-- nothing.
 use mathlib.Core.Path.{◌∙◌, sym}
 use Rattle.take.proofs.Packet.{takes_rows, takes_nothing, takes_front}
 use Rattle.take.proofs.put_packet.Goals as goal

@@ -1,4 +1,5 @@
--- `is_dash` meets its contract: a word of another length is none, and one of a single character by that. Assumes nothing.
+-- `is_dash` meets its contract: a word of another length is none, and one of a single character by that. Assumes
+-- nothing.
 use borrow.Author.Tests.{eq-eqb, ne_eqb}
 use lib.ListN.{length}
 use Rattle.words.specs.Words.{is_dash}

@@ -1,4 +1,5 @@
--- `part` meets its contract: the place lies past the end, or fewer bytes are there than are asked, or all are. Assumes nothing.
+-- `part` meets its contract: the place lies past the end, or fewer bytes are there than are asked, or all are. Assumes
+-- nothing.
 use Prim.Native.Nat.{◌+◌, ◌-◌, ◌≤◌}
 use mathlib.Core.Path.{◌≡◌, sym, ap, ◌∙◌}
 use native.Mathlib.Omega.{arith}

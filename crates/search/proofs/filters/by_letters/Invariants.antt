@@ -1,4 +1,5 @@
--- `filters::by_letters` meets its contract: as long as there is no hit, the search has come to the loop's place without finding. Assumes nothing.
+-- `filters::by_letters` meets its contract: as long as there is no hit, the search has come to the loop's place without
+-- finding. Assumes nothing.
 use Prim.Native.Nat.{◌≤◌, ◌+◌, ◌-◌}
 use mathlib.Core.Path.{◌≡◌}
 use mathlib.Core.Bool.{false}

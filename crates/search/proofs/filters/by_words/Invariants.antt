@@ -1,4 +1,5 @@
--- `filters::by_words` meets its contract: as long as there is no hit, the search has come past the pairs without finding. Assumes nothing.
+-- `filters::by_words` meets its contract: as long as there is no hit, the search has come past the pairs without
+-- finding. Assumes nothing.
 use Prim.Native.Nat.{◌≤◌, ◌+◌, ◌-◌, ◌*◌}
 use mathlib.Core.Path.{◌≡◌}
 use mathlib.Core.Bool.{false}

@@ -1,4 +1,5 @@
--- `filters::may_begin_at_two` meets its contract: two bytes that do not agree with the words are neither. Assumes nothing.
+-- `filters::may_begin_at_two` meets its contract: two bytes that do not agree with the words are neither. Assumes
+-- nothing.
 use borrow.Author.Rules.{rules}
 use Rattle.search.proofs.Find.{not_at_two}
 use Rattle.search.proofs.filters.may_begin_at_two.Goals as goal
