@@ -1,0 +1,11 @@
+-- `of_next_metadata` meets its contract. Assumes nothing.
+use mathlib.Core.Path.{sym, ap, ◌∙◌}
+use Rattle.reading_answers.specs.declared.MetadataAnswer.{MetadataAnswer}
+use Rattle.reading_answers.specs.Answers.{of_next_metadata, packet_read}
+use Rattle.reading_answers.proofs.of_next_metadata.Goals as goal
+
+pub returns-in-Is : goal.returns-in-Is
+returns-in-Is c = c.packet_read.ensures ∙ (ap (λ (m : MetadataAnswer). packet_read 1 0 0 c.in-Is.p m c.in-Is.rest) c.of_metadata.ensures ∙ ap of_next_metadata (sym c.in-Is.is))
+
+pub returns-in-End : goal.returns-in-End
+returns-in-End c = c.packet_read-in-End.ensures ∙ ap of_next_metadata (sym c.in-End.is)
