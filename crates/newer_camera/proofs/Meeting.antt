@@ -66,7 +66,7 @@ module _ (forced : Bool) {s t : List ℕ} (put : PutIn s t) (room : ℕ) (rs : L
       record {
         content = refl;
         bytes = there.item.payload_is;
-        type_text_lem = text_moved (put_before put 0) r.type;
+        type_text = text_moved (put_before put 0) r.type;
         value_before = found_there s (accepted_within forced s room rs headers e) r here;
         value_now = found_there t short (moved put r) there ∙ value_moved (put_before put 0) r;
       }
@@ -89,7 +89,7 @@ module _ (forced : Bool) {s t : List ℕ} (put : PutIn s t) (room : ℕ) (rs : L
             not_too_long = short;
             enough_room = omega (arith, all_rows);
             rows_are = grown.among;
-            in_order_lem = read_in_order forced t lent grown.rows grown.headers made;
+            in_order = read_in_order forced t lent grown.rows grown.headers made;
             kept = old_kept lent grown.rows grown.headers short made grown.among;
           })
       by_room short (no l) =

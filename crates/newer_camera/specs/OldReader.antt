@@ -34,13 +34,13 @@ abbrev pub own_value : Record → Found
 own_value r = found r.content.header r.content.payload (text_for r.content.header r.type)
 
 -- a row r of the payload s, and what it is now in t: "with the same group, identity, type, bytes and value". Where now is r moved, content and
--- type_text_lem hold by the definition of moving; bytes and the two values say what stands in t and s, and carry the weight
+-- type_text hold by the definition of moving; bytes and the two values say what stands in t and s, and carry the weight
 pub record Kept (s t : List ℕ) (r now : Record) : Type 0 where
   -- group, depth, header (key, type, size, repeat) and payload bytes; so a row's numbers but for its places
   pub content : now.content ≡ r.content
   -- those bytes stand at its place
   pub bytes : payload_at t now.place r.content.header ≡ r.content.payload
-  pub type_text_lem : text_in_force now.type ≡ text_in_force r.type
+  pub type_text : text_in_force now.type ≡ text_in_force r.type
   -- the same value, or the same refusal of a value, at every row and column
   pub value_before : found_for s r ≡ own_value r
   pub value_now : found_for t now ≡ own_value r
@@ -66,7 +66,7 @@ pub record Accepted (forced : Bool) {s t : List ℕ} (put : PutIn s t) (rs : Lis
   pub not_too_long : length t ≤ most_bytes
   pub enough_room : length rs + length (new_rows forced put) ≤ room
   pub rows_are : Among (map (moved put) rs) (new_rows forced put) rows
-  pub in_order_lem : InOrder 0 (length t) rows
+  pub in_order : InOrder 0 (length t) rows
   pub kept : (r : Record) → Memᴰ r rs → Kept s t r (moved put r)
 
 -- refusal 5

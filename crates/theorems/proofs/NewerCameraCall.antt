@@ -75,7 +75,7 @@ pub record CalledRows (forced : Bool) {s t : List ℕ} (put : PutIn s t) (n : �
   pub enough_room : m ≤ room
   -- all eight numbers of each row: the old rows, moved, in the old order, and one for each new item with a payload
   pub rows_are : Among (map (old_row put) (rows_in n was)) (map numbers (new_rows forced put)) (rows_in m is)
-  pub in_order_lem : PlacesRise 0 (length t) (rows_in m is)
+  pub in_order : PlacesRise 0 (length t) (rows_in m is)
   -- by its moved places an old row has the header, the payload bytes and the TYPE text that it had: so the same value, or refusal of a value
   pub same_value : (row : List ℕ) → Memᴰ row (rows_in n was) → found_by t (old_row put row) ≡ found_by s row
 
@@ -143,7 +143,7 @@ module _ (forced : Bool) {s t : List ℕ} (put : PutIn s t) (rs : List Record) (
         as_many = omega arith;
         enough_room = omega (arith, a.enough_room);
         rows_are = rw (was, is, rows_moved s within (put_before put 0) rs all) (among_map numbers a.rows_are);
-        in_order_lem = rw is (in_order_numbers 0 (length t) rows a.in_order);
+        in_order = rw is (in_order_numbers 0 (length t) rows a.in_order);
         same_value =
             rw was
             (of_record (λ (row : List ℕ). found_by t (old_row put row) ≡ found_by s row) rs (λ r m. kept_value r (all r m) (a.kept r m)));
@@ -158,7 +158,7 @@ module _ (forced : Bool) {s t : List ℕ} (put : PutIn s t) (rs : List Record) (
 pub newer_camera_call : (forced : Bool) {s t : List ℕ} (put : PutIn s t) (old was : List ℕ) (n headers : ℕ) (held is : List ℕ) (answer : Metadata)
     → Read (reading_of forced s (room_of (length old))) old (Rows n headers) was → Read (reading_of forced t (room_of (length held))) held answer is
     → Called forced put n was (room_of (length held)) answer is
-newer_camera_call forced {s = s} {t = t} put old was n headers held is answer before (λ x. x.now) = go (reading_of forced s (room_of (length old))) refl before.is before.rows
+newer_camera_call forced {s = s} {t = t} put old was n headers held is answer before after = go (reading_of forced s (room_of (length old))) refl before.is before.rows
   where
     room : ℕ
     room = room_of (length held)
@@ -167,7 +167,7 @@ newer_camera_call forced {s = s} {t = t} put old was n headers held is answer be
     go (refused why at) e a w = let z : ◌≡◌ {A = ℕ} 0 1 = cc in absurd (omega arith)
     go (accepted rs k) e a w =
         let as_many : n ≡ length rs = cc in
-        rw (as_many, w, (λ x. x.now).is, (λ x. x.now).rows)
+        rw (as_many, w, after.is, after.rows)
         (met_called forced put rs (accepted_within forced s (room_of (length old)) rs k e) (read_stands forced s (room_of (length old)) rs k e) (drop (length rs * row_width) old) held room
         (reading_of forced t room) ((newer_camera forced s t put (room_of (length old)) rs k e).met room))
 

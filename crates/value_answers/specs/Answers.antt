@@ -10,7 +10,7 @@ use Rattle.value.specs.declared.Kind.TheVariants as kind
 use Rattle.value.specs.declared.Shaped.{Shaped}
 use Rattle.value.specs.declared.Shaped.TheVariants as shaped
 use Rattle.value.specs.declared.Read.{Read}
-use Rattle.value.specs.declared.Read.TheVariants as read_as_lem
+use Rattle.value.specs.declared.Read.TheVariants as read_as
 use Rattle.answer_kinds.specs.Kinds.{refused, is, nothing, nought}
 use Rattle.value_answers.specs.declared.RealAnswer.{RealAnswer}
 use Rattle.value_answers.specs.declared.Number.{Number}
@@ -48,8 +48,8 @@ read kind number place e = record { kind = kind; number = number; place = place;
 
 -- the element that was read
 abbrev pub of_read : Read → ElementAnswer
-of_read (read_as_lem.Is e) = read is 0 0 (of_element e)
-of_read (read_as_lem.Refused number place) = read refused number place (of_element (element.Signed (pos 0)))
+of_read (read_as.Is e) = read is 0 0 (of_element e)
+of_read (read_as.Refused number place) = read refused number place (of_element (element.Signed (pos 0)))
 
 -- ---- a shape
 
