@@ -759,7 +759,7 @@ both_said : {M : Type 1} (𝓤 : Ura M) (φ ψ χ : Type 0) → (φ → ψ → �
 both_said 𝓤 φ ψ χ f =
     fact_use 𝓤 φ (fst∗ 𝓤 (fact 𝓤 φ) (fact 𝓤 ψ)) (λ p. fact_use 𝓤 ψ (snd∗ 𝓤 (fact 𝓤 φ) (fact 𝓤 ψ)) (λ q. fact_i 𝓤 χ (sep 𝓤 (fact 𝓤 φ) (fact 𝓤 ψ)) (f p q)))
 
--- a method of a view is not covered, so nothing is read off its source but the clauses themselves: what they ensure of two results, together, says that what `of` reads of them is the same
+-- of a method of a view nothing is read off the source but the clauses themselves: what they ensure of two results, together, says that what `of` reads of them is the same
 abbrev pub OneOfMethod : {M : Type 1} (𝓤 : Ura M) {B : Type 0} (T : Ended) → ((κs : Lfts T.signature.lifetimes) → Res T.signature κs → B) → Clauses 𝓤 T → Type 1
 OneOfMethod 𝓤 T of promise =
     (κs : Lfts T.signature.lifetimes) (a : Args T.signature κs) (g : (promise κs a).ghost) (x y : Res T.signature κs) (s t : AtExit T κs)

@@ -1,4 +1,4 @@
--- `read_past_lem` meets its contract: the packet and the one that overlaps it. Assumes nothing.
+-- `read_past` meets its contract: the packet and the one that overlaps it. Assumes nothing.
 use Rattle.window.proofs.Answers.{seeks_both}
 use Rattle.window.proofs.read_past.Goals as goal
 
