@@ -6,6 +6,8 @@ ghost use Rattle.listing_line.specs.Lines.{Begins};
 ghost use Rattle.gpmf_list.specs.Printed.{printed};
 
 use metadata::Metadata;
+use std::io;
+use std::io::Read;
 
 // The most bytes that are held of a payload; one more tells that there are more.
 const MOST_HELD: usize = 65536;
@@ -13,27 +15,27 @@ const MOST_HELD: usize = 65536;
 // The refusal of a payload over the limit.
 const TOO_LONG: u32 = 1;
 
-fn main() {
+fn main(rt: HostRuntime) {
     let mut input = [0u8; 65537];
-    let count = io::read_full(libc::STDIN_FILENO, &mut input);
-    if count < input.len() {
-        if goes_on() {
-            io::write_all(libc::STDERR_FILENO, b"gpmf_list: reading failed\n");
-            return;
-        }
-    }
+    let mut reader = rt.reader().take(input.len() as u64);
+    let Ok(count) = io::copy(&mut reader, &mut &mut input[..]) else {
+        let _ = rt.eprintln("gpmf_list: reading failed");
+        return;
+    };
     let mut rows = [0u32; 16384];
     let mut out = [0u8; 131072];
-    let end = print(&input[..count], &mut rows, &mut out);
-    if !io::write_all(libc::STDOUT_FILENO, &out[..end]) {
-        io::write_all(libc::STDERR_FILENO, b"gpmf_list: writing failed\n");
+    let end = print(first(&input, count as usize), &mut rows, &mut out);
+    if rt.write_all(&out[..end]).is_err() {
+        let _ = rt.eprintln("gpmf_list: writing failed");
     }
 }
 
-// Whether the input is not at its end, where a read has stopped: then that read failed.
-fn goes_on() -> bool {
-    let mut one = [0u8; 1];
-    libc::read(libc::STDIN_FILENO, &mut one) != 0
+// The first bytes of some, or all where there are not so many.
+fn first(s: &[u8], count: usize) -> &[u8] {
+    if s.len() < count {
+        return s;
+    }
+    &s[..count]
 }
 
 // Lays all that is printed for a payload, which always fits.

@@ -1,5 +1,7 @@
 // The bytes of the file that are held.
 use raw_file::Packet;
+use std::io;
+use std::io::{Cursor, Read};
 
 // How many they are, and whether the file ends with them.
 #[derive(Clone, Copy)]
@@ -15,26 +17,29 @@ pub(crate) const NOTHING: Held = Held {
 };
 
 // Lets go of the bytes in front of a place, and reads on behind the rest.
-pub(crate) fn read_on(held: Held, from: usize, bytes: &mut [u8]) -> Held {
+pub(crate) fn read_on(
+    rt: &(impl Input + Eprint),
+    held: Held,
+    from: usize,
+    bytes: &mut [u8],
+) -> Held {
     let kept = window::keep(bytes, held.count, from);
-    let mut chunk = io::large_buffer();
-    let got = io::read_full(libc::STDIN_FILENO, &mut chunk);
-    let ended = got < chunk.len();
-    if ended {
-        say_unread();
-    }
+    let mut chunk = [0u8; 65536];
+    let got = read_chunk(rt, &mut chunk);
     Held {
-        count: text::put_bytes(bytes, kept, &chunk[..got]),
-        ended,
+        count: text::put_bytes(bytes, kept, first(&chunk, got)),
+        ended: got < chunk.len(),
     }
 }
 
-// Where the input is not at its end although a read has stopped, that read failed: says so.
-fn say_unread() {
-    let mut one = [0u8; 1];
-    if libc::read(libc::STDIN_FILENO, &mut one) != 0 {
-        io::write_all(libc::STDERR_FILENO, b"gpmf_take: reading failed\n");
+// Reads until the chunk is full, the input ends or a read fails, which is said, and answers how many bytes came.
+fn read_chunk(rt: &(impl Input + Eprint), chunk: &mut [u8]) -> usize {
+    let mut reader = rt.reader().take(chunk.len() as u64);
+    let mut read = Cursor::new(chunk);
+    if io::copy(&mut reader, &mut read).is_err() {
+        let _ = rt.eprintln("gpmf_take: reading failed");
     }
+    read.position() as usize
 }
 
 // The first bytes of some, or all where there are not so many.

@@ -6,25 +6,28 @@
 mod held;
 mod printed;
 
+use std::env::{Env, FillError};
 use window::{Places, Step};
 
-fn main() {
-    let mut word = [0u8; 6];
-    let count = os::arg(1, &mut word);
-    let whole = check::same(&word[..count], b"whole");
-    if os::arg_count() > 1 {
-        if !whole {
-            io::write_all(
-                libc::STDERR_FILENO,
-                b"gpmf_take: the only argument is whole\n",
-            );
-            return;
-        }
-    }
+fn main(rt: HostRuntime) {
+    let Some(whole) = is_whole(&rt) else {
+        let _ = rt.eprintln("gpmf_take: the only argument is whole");
+        return;
+    };
     let mut bytes = [0u8; 196608];
     let mut rows = [0u32; 16384];
     let mut out = [0u8; 262144];
-    take_all(whole, &mut bytes, &mut rows, &mut out);
+    take_all(&rt, whole, &mut bytes, &mut rows, &mut out);
+}
+
+// Whether the argument `whole` is there; nothing where it is another.
+fn is_whole(rt: &impl Env) -> Option<bool> {
+    let mut word = [0u8; 6];
+    match rt.arg(1, &mut word) {
+        Ok(count) if held::first(&word, count) == b"whole".as_slice() => Some(true),
+        Err(FillError::NotPresent) => Some(false),
+        _ => None,
+    }
 }
 
 // Where a file begins.
@@ -37,6 +40,7 @@ const START: Places = Places {
 
 // Steps until there is none: a packet is printed, or more is read.
 fn take_all(
+    rt: &(impl Input + Print + Eprint),
     whole: bool,
     bytes: &mut [u8; 196608],
     rows: &mut [u32; 16384],
@@ -45,9 +49,7 @@ fn take_all(
     let mut held = held::NOTHING;
     let mut places = START;
     let mut counts = printed::NONE;
-    let mut turns = u64::MAX;
-    while turns > 0 {
-        turns -= 1;
+    for _ in 0..u64::MAX {
         let window = held::first(bytes, held.count);
         match window::next_step(places, window, !held.ended) {
             Step::Held {
@@ -56,7 +58,7 @@ fn take_all(
                 rest,
             } => {
                 let payload = held::part(window, packet);
-                counts = printed::put_packet(counts, payload, start, whole, rows, out);
+                counts = printed::put_packet(rt, counts, payload, start, whole, rows, out);
                 places = rest;
             }
             Step::Long {
@@ -64,15 +66,15 @@ fn take_all(
                 bytes: count,
                 rest,
             } => {
-                counts = printed::put_long(counts, start, count, whole, out);
+                counts = printed::put_long(rt, counts, start, count, whole, out);
                 places = rest;
             }
             Step::Read { from, rest } => {
-                held = held::read_on(held, from, bytes);
+                held = held::read_on(rt, held, from, bytes);
                 places = rest;
             }
-            Step::End => turns = 0,
+            Step::End => break,
         }
     }
-    printed::put_totals(counts, out);
+    printed::put_totals(rt, counts, out);
 }

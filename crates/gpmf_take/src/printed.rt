@@ -21,6 +21,7 @@ pub(crate) const NONE: Counts = Counts {
 
 // Prints a packet, by its bytes and its start in the file.
 pub(crate) fn put_packet(
+    rt: &(impl Print + Eprint),
     counts: Counts,
     payload: &[u8],
     place: u64,
@@ -28,7 +29,7 @@ pub(crate) fn put_packet(
     rows: &mut [u32],
     out: &mut [u8],
 ) -> Counts {
-    let laid = make_room(out, counts.laid);
+    let laid = make_room(rt, out, counts.laid);
     counted(
         counts,
         take::put_packet(payload, next_number(counts), place, whole, rows, out, laid),
@@ -49,13 +50,14 @@ fn counted(counts: Counts, taken: Taken) -> Counts {
 
 // Prints a packet over what is held, by its start in the file and its length.
 pub(crate) fn put_long(
+    rt: &(impl Print + Eprint),
     counts: Counts,
     place: u64,
     bytes: u64,
     whole: bool,
     out: &mut [u8],
 ) -> Counts {
-    let laid = make_room(out, counts.laid);
+    let laid = make_room(rt, out, counts.laid);
     refused(
         counts,
         take_lines::put_long_packet(next_number(counts), place, bytes, whole, out, laid),
@@ -77,29 +79,29 @@ fn next_number(counts: Counts) -> u64 {
 }
 
 // Writes what is laid where less room is left than a packet may take, and answers where the next one goes.
-fn make_room(out: &[u8], laid: usize) -> usize {
+fn make_room(rt: &(impl Print + Eprint), out: &[u8], laid: usize) -> usize {
     if laid < MOST_PRINTED {
         return laid;
     }
-    write(out, laid)
+    write(rt, out, laid)
 }
 
 // Prints the last line, and writes all that is laid.
-pub(crate) fn put_totals(counts: Counts, out: &mut [u8]) {
-    let laid = make_room(out, counts.laid);
+pub(crate) fn put_totals(rt: &(impl Print + Eprint), counts: Counts, out: &mut [u8]) {
+    let laid = make_room(rt, out, counts.laid);
     let packets = std::num::wrapping_add_u64(counts.read, counts.refused);
     let end = take_lines::put_totals(out, laid, packets, counts.read, counts.refused);
-    write(out, end);
+    write(rt, out, end);
 }
 
 // Writes what is laid, and answers where the next goes: from a write that fails on, which is said, nothing is laid.
-fn write(out: &[u8], laid: usize) -> usize {
+fn write(rt: &(impl Print + Eprint), out: &[u8], laid: usize) -> usize {
     if laid == text::FULL {
         return laid;
     }
-    if io::write_all(libc::STDOUT_FILENO, crate::held::first(out, laid)) {
+    if rt.write_all(crate::held::first(out, laid)).is_ok() {
         return 0;
     }
-    io::write_all(libc::STDERR_FILENO, b"gpmf_take: writing failed\n");
+    let _ = rt.eprintln("gpmf_take: writing failed");
     text::FULL
 }

@@ -4,14 +4,15 @@ use custom_type::Expanded;
 use klv::{Cursor, Header, KLV};
 use last_item::LastItem;
 use line::{Decoded, Number};
+use std::io;
 
 // The last word of every question is in hex.
-pub(crate) fn answer(question: &[u8]) {
+pub(crate) fn answer(rt: &impl Print, question: &[u8]) -> io::Result<()> {
     let words = pieces::pieces(question, b' ');
     let mut bytes = [0u8; 8192];
     match words::unhex_word(word(question, if words == 3 { 2 } else { 1 }), &mut bytes) {
-        Decoded::Bytes(count) => answer_of(words, question, words::part(&bytes, 0, count)),
-        _ => write_unknown(),
+        Decoded::Bytes(count) => answer_of(rt, words, question, words::part(&bytes, 0, count)),
+        _ => write_unknown(rt),
     }
 }
 
@@ -19,88 +20,88 @@ fn word(question: &[u8], index: usize) -> &[u8] {
     pieces::piece(question, b' ', index)
 }
 
-fn write_unknown() {
-    write(b"unknown");
+fn write_unknown(rt: &impl Print) -> io::Result<()> {
+    write(rt, b"unknown")
 }
 
-fn write_err() {
-    write(b"err");
+fn write_err(rt: &impl Print) -> io::Result<()> {
+    write(rt, b"err")
 }
 
-fn answer_of(words: usize, question: &[u8], bytes: &[u8]) {
+fn answer_of(rt: &impl Print, words: usize, question: &[u8], bytes: &[u8]) -> io::Result<()> {
     match words {
-        2 => answer_of_one(word(question, 0), bytes),
-        3 => answer_of_two(word(question, 0), word(question, 1), bytes),
-        _ => write_unknown(),
+        2 => answer_of_one(rt, word(question, 0), bytes),
+        3 => answer_of_two(rt, word(question, 0), word(question, 1), bytes),
+        _ => write_unknown(rt),
     }
 }
 
-fn answer_of_two(name: &[u8], place: &[u8], bytes: &[u8]) {
-    if check::same(name, b"header") {
-        answer_header(place, bytes);
+fn answer_of_two(rt: &impl Print, name: &[u8], place: &[u8], bytes: &[u8]) -> io::Result<()> {
+    if name == b"header".as_slice() {
+        answer_header(rt, place, bytes)
     } else {
-        write_unknown();
+        write_unknown(rt)
     }
 }
 
-fn answer_of_one(name: &[u8], bytes: &[u8]) {
-    if check::same(name, b"tag") {
-        answer_tag(bytes);
-    } else if check::same(name, b"group") {
-        answer_group(bytes);
-    } else if check::same(name, b"last") {
-        answer_last(bytes);
-    } else if check::same(name, b"expand") {
-        answer_expand(bytes);
+fn answer_of_one(rt: &impl Print, name: &[u8], bytes: &[u8]) -> io::Result<()> {
+    if name == b"tag".as_slice() {
+        answer_tag(rt, bytes)
+    } else if name == b"group".as_slice() {
+        answer_group(rt, bytes)
+    } else if name == b"last".as_slice() {
+        answer_last(rt, bytes)
+    } else if name == b"expand".as_slice() {
+        answer_expand(rt, bytes)
     } else {
-        write_unknown();
+        write_unknown(rt)
     }
 }
 
 // header PLACE HEX
-fn answer_header(place: &[u8], payload: &[u8]) {
+fn answer_header(rt: &impl Print, place: &[u8], payload: &[u8]) -> io::Result<()> {
     match line::decimal_number(place) {
-        Number::Is(asked) => write_header(Cursor::new(asked as usize).parse_header(payload)),
-        Number::NotOne => write_unknown(),
+        Number::Is(asked) => write_header(rt, Cursor::new(asked as usize).parse_header(payload)),
+        Number::NotOne => write_unknown(rt),
     }
 }
 
-fn write_header(header: Header) {
+fn write_header(rt: &impl Print, header: Header) -> io::Result<()> {
     match header {
-        Header::Item(klv) => write_item(klv),
-        _ => write_err(),
+        Header::Item(klv) => write_item(rt, klv),
+        _ => write_err(rt),
     }
 }
 
 // ok KEY TYPE SIZE REPEAT LENGTH ALIGNED
-fn write_item(klv: KLV) {
-    write(b"ok ");
-    write_hex(klv.key as u64, 8);
-    write_number(klv.data_type as u64);
-    write_number(klv.size as u64);
-    write_number(klv.repeat as u64);
-    write_number(klv.data_len() as u64);
-    write_number(klv.aligned_data_len() as u64);
+fn write_item(rt: &impl Print, klv: KLV) -> io::Result<()> {
+    write(rt, b"ok ")?;
+    write_hex(rt, klv.key as u64, 8)?;
+    write_number(rt, klv.data_type as u64)?;
+    write_number(rt, klv.size as u64)?;
+    write_number(rt, klv.repeat as u64)?;
+    write_number(rt, klv.data_len() as u64)?;
+    write_number(rt, klv.aligned_data_len() as u64)
 }
 
 // tag KEY
-fn answer_tag(bytes: &[u8]) {
+fn answer_tag(rt: &impl Print, bytes: &[u8]) -> io::Result<()> {
     if bytes.len() == 4 {
-        write_decimal(keys::tag_id(key_of(bytes)) as u64);
+        write_decimal(rt, keys::tag_id(key_of(bytes)) as u64)
     } else {
-        write_unknown();
+        write_unknown(rt)
     }
 }
 
 // group KEY
-fn answer_group(bytes: &[u8]) {
+fn answer_group(rt: &impl Print, bytes: &[u8]) -> io::Result<()> {
     if bytes.len() == 4 {
         let group = keys::group_from_key(key_of(bytes));
-        write_decimal(group.number as u64);
-        write_byte(b' ');
-        write_hex(group.key as u64, 8);
+        write_decimal(rt, group.number as u64)?;
+        write_byte(rt, b' ')?;
+        write_hex(rt, group.key as u64, 8)
     } else {
-        write_unknown();
+        write_unknown(rt)
     }
 }
 
@@ -109,33 +110,34 @@ fn key_of(bytes: &[u8]) -> u32 {
 }
 
 // last HEX
-fn answer_last(payload: &[u8]) {
+fn answer_last(rt: &impl Print, payload: &[u8]) -> io::Result<()> {
     match last_item::get_last_klv(payload) {
-        LastItem::Nothing => write_slice(0, payload.len()),
-        LastItem::Last { place, klv: _ } => write_slice(place, payload.len()),
-        _ => write_err(),
+        LastItem::Nothing => write_slice(rt, 0, payload.len()),
+        LastItem::Last { place, klv: _ } => write_slice(rt, place, payload.len()),
+        _ => write_err(rt),
     }
 }
 
 // ok PLACE LENGTH, of the slice from a place to the end
-fn write_slice(place: usize, end: usize) {
-    write(b"ok");
-    write_number(place as u64);
+fn write_slice(rt: &impl Print, place: usize, end: usize) -> io::Result<()> {
+    write(rt, b"ok")?;
+    write_number(rt, place as u64)?;
     if place <= end {
-        write_number((end - place) as u64);
+        write_number(rt, (end - place) as u64)?;
     }
+    Ok(())
 }
 
 // expand HEX
-fn answer_expand(type_text: &[u8]) {
+fn answer_expand(rt: &impl Print, type_text: &[u8]) -> io::Result<()> {
     let mut written = [0u8; 256];
     match custom_type::resolve_custom_type(type_text, &mut written) {
-        Expanded::TooLong => write(b"long"),
-        Expanded::Characters(length) => write_characters(written, length),
+        Expanded::TooLong => write(rt, b"long"),
+        Expanded::Characters(length) => write_characters(rt, written, length),
     }
 }
 
-fn write_characters(written: [u8; 256], length: usize) {
-    write(b"ok t");
-    write_hex_bytes(words::part(&written, 0, length));
+fn write_characters(rt: &impl Print, written: [u8; 256], length: usize) -> io::Result<()> {
+    write(rt, b"ok t")?;
+    write_hex_bytes(rt, words::part(&written, 0, length))
 }

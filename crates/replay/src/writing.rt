@@ -1,37 +1,39 @@
 // Writes bytes and numbers to standard output.
-pub(crate) fn write(s: &[u8]) {
-    io::write_all(libc::STDOUT_FILENO, s);
+use std::io;
+
+pub(crate) fn write(rt: &impl Print, s: &[u8]) -> io::Result<()> {
+    rt.write_all(s)
 }
 
-pub(crate) fn write_byte(b: u8) {
-    let one = [b];
-    write(&one);
+pub(crate) fn write_byte(rt: &impl Print, b: u8) -> io::Result<()> {
+    write(rt, &[b])
 }
 
-pub(crate) fn write_decimal(n: u64) {
-    io::print_decimal(libc::STDOUT_FILENO, n);
+pub(crate) fn write_decimal(rt: &impl Print, n: u64) -> io::Result<()> {
+    print!(rt; "{n}")
 }
 
 // A number with a space before it.
-pub(crate) fn write_number(n: u64) {
-    write_byte(b' ');
-    write_decimal(n);
+pub(crate) fn write_number(rt: &impl Print, n: u64) -> io::Result<()> {
+    write_byte(rt, b' ')?;
+    write_decimal(rt, n)
 }
 
 // A number in hex, in so many digits or more.
-pub(crate) fn write_hex(n: u64, count: usize) {
-    io::print_hex(libc::STDOUT_FILENO, n, count);
+pub(crate) fn write_hex(rt: &impl Print, n: u64, count: usize) -> io::Result<()> {
+    print!(rt; "{n:0count$x}")
 }
 
 // Bytes in hex.
-pub(crate) fn write_hex_bytes(s: &[u8]) {
+pub(crate) fn write_hex_bytes(rt: &impl Print, s: &[u8]) -> io::Result<()> {
     let mut i: usize = 0;
     while i < s.len() {
-        write_hex_byte(s[i]);
+        write_hex_byte(rt, s[i])?;
         i += 1;
     }
+    Ok(())
 }
 
-fn write_hex_byte(b: u8) {
-    write_hex(b as u64, 2);
+fn write_hex_byte(rt: &impl Print, b: u8) -> io::Result<()> {
+    write_hex(rt, b as u64, 2)
 }

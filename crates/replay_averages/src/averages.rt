@@ -3,16 +3,17 @@ use crate::writing::write;
 use durations::Average;
 use elements::Element;
 use line::{Decoded, Number};
+use std::io;
 
 // The most packets of a question.
 const MOST: usize = 64;
 
 // The answer is written, without the end of its line.
-pub(crate) fn answer(question: &[u8]) {
-    if check::same(word(question, 0), b"average") {
-        answer_average(question, pieces::pieces(question, b' '));
+pub(crate) fn answer(rt: &impl Print, question: &[u8]) -> io::Result<()> {
+    if word(question, 0) == b"average".as_slice() {
+        answer_average(rt, question, pieces::pieces(question, b' '))
     } else {
-        write_unknown();
+        write_unknown(rt)
     }
 }
 
@@ -20,26 +21,27 @@ fn word(question: &[u8], index: usize) -> &[u8] {
     pieces::piece(question, b' ', index)
 }
 
-fn write_unknown() {
-    write(b"unknown");
+fn write_unknown(rt: &impl Print) -> io::Result<()> {
+    write(rt, b"unknown")
 }
 
-fn answer_average(question: &[u8], words: usize) {
+fn answer_average(rt: &impl Print, question: &[u8], words: usize) -> io::Result<()> {
     if words > MOST {
-        write_unknown();
+        write_unknown(rt)
     } else {
-        write_average(average_of(question, words));
+        write_average(rt, average_of(question, words))
     }
 }
 
-fn write_average(average: Average) {
+fn write_average(rt: &impl Print, average: Average) -> io::Result<()> {
     match average {
         Average::Is(ms) => {
-            write(b"ok d");
-            io::print_hex(libc::STDOUT_FILENO, float_bits::double_bits(ms), 16);
+            write(rt, b"ok d")?;
+            let bits = float_bits::double_bits(ms);
+            print!(rt; "{bits:016x}")
         }
-        Average::Nothing => write(b"none"),
-        _ => write(b"refused"),
+        Average::Nothing => write(rt, b"none"),
+        _ => write(rt, b"refused"),
     }
 }
 

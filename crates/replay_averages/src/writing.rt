@@ -1,4 +1,6 @@
 // Writes bytes to standard output.
-pub(crate) fn write(s: &[u8]) {
-    io::write_all(libc::STDOUT_FILENO, s);
+use std::io;
+
+pub(crate) fn write(rt: &impl Print, s: &[u8]) -> io::Result<()> {
+    rt.write_all(s)
 }

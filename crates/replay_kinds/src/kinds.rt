@@ -1,37 +1,45 @@
 // The Rust's names for the kinds of values, with the type where it is a part of the name.
 use rows::RowAt;
+use std::io;
 use value::{Kind, Shape, Shaped};
 
-pub(crate) fn write_kinds(payload: &[u8], rows: &[u32], count: usize) {
+pub(crate) fn write_kinds(
+    rt: &impl Print,
+    payload: &[u8],
+    rows: &[u32],
+    count: usize,
+) -> io::Result<()> {
     let mut n: usize = 0;
     while n < count {
-        write_kind(payload, rows::row_at(rows, n));
+        write_kind(rt, payload, rows::row_at(rows, n))?;
         n += 1;
     }
+    Ok(())
 }
 
-pub(crate) fn write(s: &[u8]) {
-    io::write_all(libc::STDOUT_FILENO, s);
+pub(crate) fn write(rt: &impl Print, s: &[u8]) -> io::Result<()> {
+    rt.write_all(s)
 }
 
 // VARIANT of a row's value, with a space before it; the letter of its type stands in the row
-fn write_kind(payload: &[u8], row: RowAt) {
-    if let RowAt::Is(row) = row {
-        write(b" ");
-        match values::shape_at(payload, row.place as usize, row.type_place as usize) {
-            Shaped::Is(shape) => write_name(shape, (row.shape / 0x100_0000) as u8),
-            _ => write(b"-"),
-        }
+fn write_kind(rt: &impl Print, payload: &[u8], row: RowAt) -> io::Result<()> {
+    let RowAt::Is(row) = row else {
+        return Ok(());
+    };
+    write(rt, b" ")?;
+    match values::shape_at(payload, row.place as usize, row.type_place as usize) {
+        Shaped::Is(shape) => write_name(rt, shape, (row.shape / 0x100_0000) as u8),
+        _ => write(rt, b"-"),
     }
 }
 
-fn write_name(shape: Shape, letter: u8) {
+fn write_name(rt: &impl Print, shape: Shape, letter: u8) -> io::Result<()> {
     let kinds: &[u8] =
         b" Vec_ Vec_Vector3_ Vec_TimeVector3_ Vec_Vec_ String Vec_String Uuid u64 Vec_Quaternioni16 Vec_Scalar Vec_Vec_Scalar Unknown";
     let types: &[u8] = b" i8 u8 i16 u16 i32 u32 i64 u64 f32 f64";
     let index = kind_index(shape);
-    write(pieces::piece(kinds, b' ', index));
-    write(pieces::piece(types, b' ', type_index(index, letter)));
+    write(rt, pieces::piece(kinds, b' ', index))?;
+    write(rt, pieces::piece(types, b' ', type_index(index, letter)))
 }
 
 // The place of a kind's name among those of `write_name`.

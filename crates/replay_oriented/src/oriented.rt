@@ -3,6 +3,7 @@ use axes::Axes;
 use line::Decoded;
 use metadata::Metadata;
 use orientation::Oriented;
+use std::io;
 
 const GYRO: u32 = 0x4759524f;
 
@@ -11,58 +12,63 @@ const ACCL: u32 = 0x4143434c;
 const MAGN: u32 = 0x4d41474e;
 
 // The name takes nine bytes, with the space behind it.
-pub(crate) fn answer(question: &[u8]) {
-    if check::same(words::part(question, 0, 9), b"oriented ") {
-        answer_oriented(words::part(question, 9, question.len()));
+pub(crate) fn answer(rt: &impl Print, question: &[u8]) -> io::Result<()> {
+    if words::part(question, 0, 9) == b"oriented ".as_slice() {
+        answer_oriented(rt, words::part(question, 9, question.len()))
     } else {
-        write_unknown();
+        write_unknown(rt)
     }
 }
 
-pub(crate) fn write(s: &[u8]) {
-    io::write_all(libc::STDOUT_FILENO, s);
+pub(crate) fn write(rt: &impl Print, s: &[u8]) -> io::Result<()> {
+    rt.write_all(s)
 }
 
-fn write_unknown() {
-    write(b"unknown");
+fn write_unknown(rt: &impl Print) -> io::Result<()> {
+    write(rt, b"unknown")
 }
 
-fn answer_oriented(hex: &[u8]) {
+fn answer_oriented(rt: &impl Print, hex: &[u8]) -> io::Result<()> {
     let mut payload = [0u8; 8192];
     match words::unhex_word(hex, &mut payload) {
-        Decoded::Bytes(count) => write_reading(words::part(&payload, 0, count)),
-        _ => write_unknown(),
+        Decoded::Bytes(count) => write_reading(rt, words::part(&payload, 0, count)),
+        _ => write_unknown(rt),
     }
 }
 
-fn write_reading(payload: &[u8]) {
+fn write_reading(rt: &impl Print, payload: &[u8]) -> io::Result<()> {
     let mut rows = [0u32; 16384];
     match metadata::parse_metadata(payload, false, &mut rows) {
         Metadata::Rows {
             rows: count,
             headers: _,
-        } => write_oriented(payload, &rows, count),
-        _ => write(b"err"),
+        } => write_oriented(rt, payload, &rows, count),
+        _ => write(rt, b"err"),
     }
 }
 
 // Where the Rust panics, some group is refused.
-fn write_oriented(payload: &[u8], rows: &[u32], count: usize) {
+fn write_oriented(rt: &impl Print, payload: &[u8], rows: &[u32], count: usize) -> io::Result<()> {
     let gyroscope = orientation::orientation_of_group(payload, rows, count, 1, GYRO);
     let accelerometer = orientation::orientation_of_group(payload, rows, count, 1, ACCL);
     let magnetometer = orientation::orientation_of_group(payload, rows, count, 1, MAGN);
     if is_refused(gyroscope) || is_refused(accelerometer) || is_refused(magnetometer) {
-        write(b"panic");
+        write(rt, b"panic")
     } else {
-        write_groups(gyroscope, accelerometer, magnetometer);
+        write_groups(rt, gyroscope, accelerometer, magnetometer)
     }
 }
 
-fn write_groups(gyroscope: Oriented, accelerometer: Oriented, magnetometer: Oriented) {
-    write(b"ok");
-    write_axes(gyroscope, b" GYRO=");
-    write_axes(accelerometer, b" ACCL=");
-    write_axes(magnetometer, b" MAGN=");
+fn write_groups(
+    rt: &impl Print,
+    gyroscope: Oriented,
+    accelerometer: Oriented,
+    magnetometer: Oriented,
+) -> io::Result<()> {
+    write(rt, b"ok")?;
+    write_axes(rt, gyroscope, b" GYRO=")?;
+    write_axes(rt, accelerometer, b" ACCL=")?;
+    write_axes(rt, magnetometer, b" MAGN=")
 }
 
 fn is_refused(oriented: Oriented) -> bool {
@@ -75,14 +81,15 @@ fn is_refused(oriented: Oriented) -> bool {
     }
 }
 
-fn write_axes(oriented: Oriented, name: &[u8]) {
+fn write_axes(rt: &impl Print, oriented: Oriented, name: &[u8]) -> io::Result<()> {
     if let Oriented::Is(axes) = oriented {
-        write(name);
-        write_letters(axes);
+        write(rt, name)?;
+        write_letters(rt, axes)?;
     }
+    Ok(())
 }
 
-fn write_letters(axes: Axes) {
+fn write_letters(rt: &impl Print, axes: Axes) -> io::Result<()> {
     let letters = [axes.first, axes.second, axes.third];
-    write(&letters);
+    write(rt, &letters)
 }

@@ -2,30 +2,32 @@
 use crate::packets;
 use crate::writing::write;
 use line::Decoded;
+use std::io;
 
-pub(crate) fn answer(question: &[u8]) {
+pub(crate) fn answer(rt: &impl Print, question: &[u8]) -> io::Result<()> {
     let mut file = [0u8; 8192];
     match words::unhex_word(pieces::piece(question, b' ', 1), &mut file) {
         Decoded::Bytes(count) => {
             answer_of(
+                rt,
                 pieces::piece(question, b' ', 0),
                 words::part(&file, 0, count),
-            );
+            )
         }
-        _ => write_unknown(),
+        _ => write_unknown(rt),
     }
 }
 
-fn write_unknown() {
-    write(b"unknown");
+fn write_unknown(rt: &impl Print) -> io::Result<()> {
+    write(rt, b"unknown")
 }
 
-fn answer_of(name: &[u8], file: &[u8]) {
-    if check::same(name, b"cuts") {
-        packets::answer_file(file, true);
-    } else if check::same(name, b"packets") {
-        packets::answer_file(file, false);
+fn answer_of(rt: &impl Print, name: &[u8], file: &[u8]) -> io::Result<()> {
+    if name == b"cuts".as_slice() {
+        packets::answer_file(rt, file, true)
+    } else if name == b"packets".as_slice() {
+        packets::answer_file(rt, file, false)
     } else {
-        write_unknown();
+        write_unknown(rt)
     }
 }

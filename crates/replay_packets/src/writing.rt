@@ -1,19 +1,20 @@
 // Writes bytes and numbers to standard output.
-pub(crate) fn write(s: &[u8]) {
-    io::write_all(libc::STDOUT_FILENO, s);
+use std::io;
+
+pub(crate) fn write(rt: &impl Print, s: &[u8]) -> io::Result<()> {
+    rt.write_all(s)
 }
 
-pub(crate) fn write_byte(b: u8) {
-    let one = [b];
-    write(&one);
+pub(crate) fn write_byte(rt: &impl Print, b: u8) -> io::Result<()> {
+    write(rt, &[b])
 }
 
-pub(crate) fn write_decimal(n: u64) {
-    io::print_decimal(libc::STDOUT_FILENO, n);
+pub(crate) fn write_decimal(rt: &impl Print, n: u64) -> io::Result<()> {
+    print!(rt; "{n}")
 }
 
 // A number with a space before it.
-pub(crate) fn write_number(n: u64) {
-    write_byte(b' ');
-    write_decimal(n);
+pub(crate) fn write_number(rt: &impl Print, n: u64) -> io::Result<()> {
+    write_byte(rt, b' ')?;
+    write_decimal(rt, n)
 }

@@ -6,29 +6,35 @@
 mod scaled;
 mod writing;
 
-fn main() {
+use std::io;
+use std::io::Read;
+
+fn main(rt: HostRuntime) -> io::Result<()> {
     let mut input = input_buffer();
-    let count = io::read_full(libc::STDIN_FILENO, &mut input);
-    answer_all(&input[..count]);
+    let mut reader = rt.reader().take(input.len() as u64);
+    let count = io::copy(&mut reader, &mut &mut input[..])?;
+    answer_all(&rt, words::part(&input, 0, count as usize))
 }
 
 fn input_buffer() -> [u8; 1048576] {
     [0u8; 1048576]
 }
 
-fn answer_all(input: &[u8]) {
+fn answer_all(rt: &impl Print, input: &[u8]) -> io::Result<()> {
     let mut from: usize = 0;
     while from < input.len() {
         let question = words::line_from(input, from);
-        answer_line(question);
+        answer_line(rt, question)?;
         from += question.len() + 1;
     }
+    Ok(())
 }
 
 // An empty line has no answer.
-fn answer_line(question: &[u8]) {
+fn answer_line(rt: &impl Print, question: &[u8]) -> io::Result<()> {
     if question.len() > 0 {
-        scaled::answer(question);
-        writing::write(b"\n");
+        scaled::answer(rt, question)?;
+        writing::write(rt, b"\n")?;
     }
+    Ok(())
 }

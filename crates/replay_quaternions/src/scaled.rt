@@ -4,65 +4,79 @@ use line::Decoded;
 use metadata::Metadata;
 use quaternions::ScaledRow;
 use scaling::Quaternion;
+use std::io;
 
 const CORI: u32 = 0x434f5249;
 
 const IORI: u32 = 0x494f5249;
 
 // The name takes five bytes, with the space behind it.
-pub(crate) fn answer(question: &[u8]) {
-    if check::same(words::part(question, 0, 5), b"quat ") {
-        answer_quaternions(words::part(question, 5, question.len()));
+pub(crate) fn answer(rt: &impl Print, question: &[u8]) -> io::Result<()> {
+    if words::part(question, 0, 5) == b"quat ".as_slice() {
+        answer_quaternions(rt, words::part(question, 5, question.len()))
     } else {
-        write_unknown();
+        write_unknown(rt)
     }
 }
 
-fn write_unknown() {
-    write(b"unknown");
+fn write_unknown(rt: &impl Print) -> io::Result<()> {
+    write(rt, b"unknown")
 }
 
-fn answer_quaternions(hex: &[u8]) {
+fn answer_quaternions(rt: &impl Print, hex: &[u8]) -> io::Result<()> {
     let mut payload = [0u8; 8192];
     match words::unhex_word(hex, &mut payload) {
-        Decoded::Bytes(count) => write_reading(words::part(&payload, 0, count)),
-        _ => write_unknown(),
+        Decoded::Bytes(count) => write_reading(rt, words::part(&payload, 0, count)),
+        _ => write_unknown(rt),
     }
 }
 
-fn write_reading(payload: &[u8]) {
+fn write_reading(rt: &impl Print, payload: &[u8]) -> io::Result<()> {
     let mut rows = [0u32; 16384];
     match metadata::parse_metadata(payload, false, &mut rows) {
         Metadata::Rows {
             rows: count,
             headers: _,
         } => {
-            write(b"ok");
-            write_group(payload, &rows, count, CORI, b" CORI=[");
-            write_group(payload, &rows, count, IORI, b" IORI=[");
+            write(rt, b"ok")?;
+            write_group(rt, payload, &rows, count, CORI, b" CORI=[")?;
+            write_group(rt, payload, &rows, count, IORI, b" IORI=[")
         }
-        _ => write(b"err"),
+        _ => write(rt, b"err"),
     }
 }
 
 // The quaternions of a group, where it has any.
-fn write_group(payload: &[u8], rows: &[u32], count: usize, key: u32, name: &[u8]) {
+fn write_group(
+    rt: &impl Print,
+    payload: &[u8],
+    rows: &[u32],
+    count: usize,
+    key: u32,
+    name: &[u8],
+) -> io::Result<()> {
     if let ScaledRow::Nothing = quaternions::scaled_quaternion(payload, rows, count, 1, key, 0) {
-        return;
+        return Ok(());
     }
-    write(name);
-    write_list(payload, rows, count, key);
-    write_byte(b']');
+    write(rt, name)?;
+    write_list(rt, payload, rows, count, key)?;
+    write_byte(rt, b']')
 }
 
 // Row after row, up to the first that is refused: it lies outside the value.
-fn write_list(payload: &[u8], rows: &[u32], count: usize, key: u32) {
+fn write_list(
+    rt: &impl Print,
+    payload: &[u8],
+    rows: &[u32],
+    count: usize,
+    key: u32,
+) -> io::Result<()> {
     let mut row: usize = 0;
     while row < 65536 {
         match quaternions::scaled_quaternion(payload, rows, count, 1, key, row) {
             ScaledRow::Is(q) => {
-                write_between(row);
-                write_quaternion(q);
+                write_between(rt, row)?;
+                write_quaternion(rt, q)?;
                 row += 1;
             }
             _ => {
@@ -70,18 +84,20 @@ fn write_list(payload: &[u8], rows: &[u32], count: usize, key: u32) {
             }
         }
     }
+    Ok(())
 }
 
-fn write_between(index: usize) {
+fn write_between(rt: &impl Print, index: usize) -> io::Result<()> {
     if index > 0 {
-        write_byte(b';');
+        write_byte(rt, b';')?;
     }
+    Ok(())
 }
 
-fn write_quaternion(q: Quaternion) {
-    write_double(b'[', q.w);
-    write_double(b';', q.x);
-    write_double(b';', q.y);
-    write_double(b';', q.z);
-    write_byte(b']');
+fn write_quaternion(rt: &impl Print, q: Quaternion) -> io::Result<()> {
+    write_double(rt, b'[', q.w)?;
+    write_double(rt, b';', q.x)?;
+    write_double(rt, b';', q.y)?;
+    write_double(rt, b';', q.z)?;
+    write_byte(rt, b']')
 }

@@ -3,33 +3,38 @@ use crate::items;
 use crate::writing::{write, write_decimal};
 use line::Decoded;
 use metadata::Metadata;
+use std::io;
 
 // The name and the forcing take seven bytes.
-pub(crate) fn answer(question: &[u8]) {
+pub(crate) fn answer(rt: &impl Print, question: &[u8]) -> io::Result<()> {
     let mut payload = [0u8; 8192];
     match words::unhex_word(words::part(question, 7, question.len()), &mut payload) {
         Decoded::Bytes(count) => {
-            answer_of(words::part(question, 0, 7), words::part(&payload, 0, count));
+            answer_of(
+                rt,
+                words::part(question, 0, 7),
+                words::part(&payload, 0, count),
+            )
         }
-        _ => write_unknown(),
+        _ => write_unknown(rt),
     }
 }
 
-fn write_unknown() {
-    write(b"unknown");
+fn write_unknown(rt: &impl Print) -> io::Result<()> {
+    write(rt, b"unknown")
 }
 
-fn answer_of(asked: &[u8], payload: &[u8]) {
-    if check::same(asked, b"rows 0 ") {
-        write_reading(payload, false);
-    } else if check::same(asked, b"rows 1 ") {
-        write_reading(payload, true);
+fn answer_of(rt: &impl Print, asked: &[u8], payload: &[u8]) -> io::Result<()> {
+    if asked == b"rows 0 ".as_slice() {
+        write_reading(rt, payload, false)
+    } else if asked == b"rows 1 ".as_slice() {
+        write_reading(rt, payload, true)
     } else {
-        write_unknown();
+        write_unknown(rt)
     }
 }
 
-fn write_reading(payload: &[u8], forced: bool) {
+fn write_reading(rt: &impl Print, payload: &[u8], forced: bool) -> io::Result<()> {
     // room for 1,024 rows: more than the bytes of a question have
     let mut rows = [0u32; 8192];
     match metadata::parse_metadata(payload, forced, &mut rows) {
@@ -37,10 +42,10 @@ fn write_reading(payload: &[u8], forced: bool) {
             rows: count,
             headers,
         } => {
-            write(b"ok h=");
-            write_decimal(headers as u64);
-            items::write_rows(payload, &rows, count);
+            write(rt, b"ok h=")?;
+            write_decimal(rt, headers as u64)?;
+            items::write_rows(rt, payload, &rows, count)
         }
-        _ => write(b"err"),
+        _ => write(rt, b"err"),
     }
 }

@@ -2,47 +2,49 @@
 use line::{Decoded, Number};
 use metadata::Metadata;
 use stamps::Stamp;
+use std::io;
 
 // The name takes six bytes, with the space behind it, and the key eight, with one more.
-pub(crate) fn answer(question: &[u8]) {
-    if check::same(words::part(question, 0, 6), b"stamp ") {
+pub(crate) fn answer(rt: &impl Print, question: &[u8]) -> io::Result<()> {
+    if words::part(question, 0, 6) == b"stamp ".as_slice() {
         answer_stamp(
+            rt,
             words::part(question, 6, 8),
             words::part(question, 15, question.len()),
-        );
+        )
     } else {
-        write_unknown();
+        write_unknown(rt)
     }
 }
 
-pub(crate) fn write(s: &[u8]) {
-    io::write_all(libc::STDOUT_FILENO, s);
+pub(crate) fn write(rt: &impl Print, s: &[u8]) -> io::Result<()> {
+    rt.write_all(s)
 }
 
 fn word(question: &[u8], index: usize) -> &[u8] {
     pieces::piece(question, b' ', index)
 }
 
-fn write_unknown() {
-    write(b"unknown");
+fn write_unknown(rt: &impl Print) -> io::Result<()> {
+    write(rt, b"unknown")
 }
 
-fn answer_stamp(group: &[u8], hex: &[u8]) {
+fn answer_stamp(rt: &impl Print, group: &[u8], hex: &[u8]) -> io::Result<()> {
     let mut payload = [0u8; 8192];
     match words::unhex_word(hex, &mut payload) {
-        Decoded::Bytes(count) => write_reading(words::part(&payload, 0, count), key_of(group)),
-        _ => write_unknown(),
+        Decoded::Bytes(count) => write_reading(rt, words::part(&payload, 0, count), key_of(group)),
+        _ => write_unknown(rt),
     }
 }
 
-fn write_reading(payload: &[u8], group: u32) {
+fn write_reading(rt: &impl Print, payload: &[u8], group: u32) -> io::Result<()> {
     let mut rows = [0u32; 16384];
     match metadata::parse_metadata(payload, false, &mut rows) {
         Metadata::Rows {
             rows: count,
             headers: _,
-        } => write_stamp(stamps::stamp_us(payload, &rows, count, 1, group)),
-        _ => write(b"err"),
+        } => write_stamp(rt, stamps::stamp_us(payload, &rows, count, 1, group)),
+        _ => write(rt, b"err"),
     }
 }
 
@@ -54,13 +56,13 @@ fn key_of(word: &[u8]) -> u32 {
     }
 }
 
-fn write_stamp(stamp: Stamp) {
+fn write_stamp(rt: &impl Print, stamp: Stamp) -> io::Result<()> {
     match stamp {
         Stamp::Is(us) => {
-            write(b"ok ");
-            io::print_decimal(libc::STDOUT_FILENO, us);
+            write(rt, b"ok ")?;
+            print!(rt; "{us}")
         }
-        Stamp::Nothing => write(b"none"),
-        _ => write(b"refused"),
+        Stamp::Nothing => write(rt, b"none"),
+        _ => write(rt, b"refused"),
     }
 }

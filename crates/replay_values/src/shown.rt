@@ -2,48 +2,70 @@
 use crate::writing::{write, write_byte, write_decimal, write_hex, write_signed};
 use elements::Element;
 use rows::RowAt;
+use std::io;
 use value::{Count, Read, Shaped};
 
-pub(crate) fn write_items(payload: &[u8], rows: &[u32], count: usize) {
+pub(crate) fn write_items(
+    rt: &impl Print,
+    payload: &[u8],
+    rows: &[u32],
+    count: usize,
+) -> io::Result<()> {
     let mut n: usize = 0;
     while n < count {
-        write_item(payload, rows::row_at(rows, n));
+        write_item(rt, payload, rows::row_at(rows, n))?;
         n += 1;
     }
+    Ok(())
 }
 
 // The value of a row's item, with a space before it
-fn write_item(payload: &[u8], row: RowAt) {
-    if let RowAt::Is(row) = row {
-        let place = row.place as usize;
-        let type_place = row.type_place as usize;
-        match values::shape_at(payload, place, type_place) {
-            Shaped::Is(shape) => {
-                write_byte(b' ');
-                write_decimal(shape.rows as u64);
-                write_rows(payload, place, type_place, shape.rows);
-            }
-            _ => write(b" err"),
+fn write_item(rt: &impl Print, payload: &[u8], row: RowAt) -> io::Result<()> {
+    let RowAt::Is(row) = row else {
+        return Ok(());
+    };
+    let place = row.place as usize;
+    let type_place = row.type_place as usize;
+    match values::shape_at(payload, place, type_place) {
+        Shaped::Is(shape) => {
+            write_byte(rt, b' ')?;
+            write_decimal(rt, shape.rows as u64)?;
+            write_rows(rt, payload, place, type_place, shape.rows)
         }
+        _ => write(rt, b" err"),
     }
 }
 
-fn write_rows(payload: &[u8], place: usize, type_place: usize, rows: usize) {
+fn write_rows(
+    rt: &impl Print,
+    payload: &[u8],
+    place: usize,
+    type_place: usize,
+    rows: usize,
+) -> io::Result<()> {
     let mut row: usize = 0;
     while row < rows {
-        write_byte(b'/');
-        write_columns(payload, place, type_place, row);
+        write_byte(rt, b'/')?;
+        write_columns(rt, payload, place, type_place, row)?;
         row += 1;
     }
+    Ok(())
 }
 
-fn write_columns(payload: &[u8], place: usize, type_place: usize, row: usize) {
+fn write_columns(
+    rt: &impl Print,
+    payload: &[u8],
+    place: usize,
+    type_place: usize,
+    row: usize,
+) -> io::Result<()> {
     let columns = columns_of(payload, place, type_place, row);
     let mut column: usize = 0;
     while column < columns {
-        write_element(values::element(payload, place, type_place, row, column));
+        write_element(rt, values::element(payload, place, type_place, row, column))?;
         column += 1;
     }
+    Ok(())
 }
 
 // The columns of a row; none where there is no such row.
@@ -55,25 +77,26 @@ fn columns_of(payload: &[u8], place: usize, type_place: usize, row: usize) -> us
 }
 
 // Bits in hex, whole numbers in decimal, behind a letter for their form.
-fn write_element(read: Read) {
-    if let Read::Is(element) = read {
-        match element {
-            Element::Signed(n) => {
-                write_byte(b'i');
-                write_signed(n);
-            }
-            Element::Unsigned(n) => {
-                write_byte(b'u');
-                write_decimal(n);
-            }
-            Element::Single(x) => {
-                write_byte(b'f');
-                write_hex(float_bits::single_bits(x) as u64, 8);
-            }
-            Element::Double(x) => {
-                write_byte(b'd');
-                write_hex(float_bits::double_bits(x), 16);
-            }
+fn write_element(rt: &impl Print, read: Read) -> io::Result<()> {
+    let Read::Is(element) = read else {
+        return Ok(());
+    };
+    match element {
+        Element::Signed(n) => {
+            write_byte(rt, b'i')?;
+            write_signed(rt, n)
+        }
+        Element::Unsigned(n) => {
+            write_byte(rt, b'u')?;
+            write_decimal(rt, n)
+        }
+        Element::Single(x) => {
+            write_byte(rt, b'f')?;
+            write_hex(rt, float_bits::single_bits(x) as u64, 8)
+        }
+        Element::Double(x) => {
+            write_byte(rt, b'd')?;
+            write_hex(rt, float_bits::double_bits(x), 16)
         }
     }
 }

@@ -1,24 +1,25 @@
 // Writes bytes and numbers to standard output.
-pub(crate) fn write(s: &[u8]) {
-    io::write_all(libc::STDOUT_FILENO, s);
+use std::io;
+
+pub(crate) fn write(rt: &impl Print, s: &[u8]) -> io::Result<()> {
+    rt.write_all(s)
 }
 
-pub(crate) fn write_byte(b: u8) {
-    let one = [b];
-    write(&one);
+pub(crate) fn write_byte(rt: &impl Print, b: u8) -> io::Result<()> {
+    write(rt, &[b])
 }
 
-pub(crate) fn write_decimal(n: u64) {
-    io::print_decimal(libc::STDOUT_FILENO, n);
+pub(crate) fn write_decimal(rt: &impl Print, n: u64) -> io::Result<()> {
+    print!(rt; "{n}")
 }
 
-pub(crate) fn write_signed(n: i64) {
+pub(crate) fn write_signed(rt: &impl Print, n: i64) -> io::Result<()> {
     let mut digits = [0u8; 20];
     let end = numerals::put_signed(&mut digits, 0, n);
-    write(words::part(&digits, 0, end));
+    write(rt, words::part(&digits, 0, end))
 }
 
 // A number in hex, in so many digits or more.
-pub(crate) fn write_hex(n: u64, count: usize) {
-    io::print_hex(libc::STDOUT_FILENO, n, count);
+pub(crate) fn write_hex(rt: &impl Print, n: u64, count: usize) -> io::Result<()> {
+    print!(rt; "{n:0count$x}")
 }
