@@ -1,6 +1,9 @@
-// The ground that the other crates stand on: recursion by fuel, texts, their pieces and digits (definitions only), and big-endian numbers.
+// The ground that the other crates stand on: recursion by fuel, texts, their pieces and digits (definitions only),
+// refusals, and big-endian numbers.
 
 #![tactic(auto)]
+
+pub mod refusal;
 
 ghost use Rattle.std.specs.Prelude.{◌≡◌, ◌<◌, min, take};
 ghost use Rattle.foundation.specs.BigEndian.{big_endian};

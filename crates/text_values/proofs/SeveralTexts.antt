@@ -18,9 +18,8 @@ use Rattle.texts.specs.Kept.{up_to_zero}
 use Rattle.texts.specs.Texts.{are_well_formed}
 use Rattle.texts.proofs.Kept.{up_to_zero_front, up_to_zero_length}
 use Rattle.value.specs.declared.Kind.TheVariants as kind
-use Rattle.value.specs.declared.Read.TheVariants as read
-use Rattle.value.specs.declared.Shaped.TheVariants as shaped
-use Rattle.value.specs.declared.Count.TheVariants as columns
+use Rattle.std.specs.Prelude.{Ok}
+use Rattle.foundation.specs.Refusals.{refuse}
 use Rattle.value.specs.Value.{text_of, texts}
 use Rattle.value.specs.Answer.{element_in, shape_in, columns_in}
 
@@ -92,39 +91,39 @@ module _ (h : KLV) (payload : List ℕ) (place size : ℕ) (is-size : size ≡ h
     refused : are_well_formed h.size payload ≡ false
     refused = sym well ∙ not-true fine no
 
-    pub element_refused : (row column : ℕ) → read.Refused 7 place ≡ element_in place (texts h payload) row column
+    pub element_refused : (row column : ℕ) → refuse 7 place ≡ element_in place (texts h payload) row column
     element_refused row column = simp refused
 
-    pub columns_refused : (row : ℕ) → columns.Refused 7 place ≡ columns_in place (texts h payload) row
+    pub columns_refused : (row : ℕ) → refuse 7 place ≡ columns_in place (texts h payload) row
     columns_refused row = simp refused
 
-    pub shape_refused : shaped.Refused 7 place ≡ shape_in place (texts h payload)
+    pub shape_refused : refuse 7 place ≡ shape_in place (texts h payload)
     shape_refused = simp refused
 
   module _ (yes : not fine ≡ false) (rows : ℕ) (is-rows : rows ≡ h.repeat) where
     good : are_well_formed h.size payload ≡ true
     good = sym well ∙ not-false fine yes
 
-    pub shape_good : (n : ℕ) → n ≡ length (text_of h payload 0) → shaped.Is (record { kind = kind.Texts; rows = rows; columns = n }) ≡ shape_in place (texts h payload)
-    shape_good n e = (λ i. shaped.Is (record { kind = kind.Texts; rows = is-rows i; columns = e i })) ∙ sym (simp good)
+    pub shape_good : (n : ℕ) → n ≡ length (text_of h payload 0) → Ok (record { kind = kind.Texts; rows = rows; columns = n }) ≡ shape_in place (texts h payload)
+    shape_good n e = (λ i. Ok (record { kind = kind.Texts; rows = is-rows i; columns = e i })) ∙ sym (simp good)
 
     module _ (row : ℕ) where
-      pub element_row : (column : ℕ) → rows ≤ row → read.Refused 13 place ≡ element_in place (texts h payload) row column
+      pub element_row : (column : ℕ) → rows ≤ row → refuse 13 place ≡ element_in place (texts h payload) row column
       element_row column l = simp (good, le-ltb row h.repeat (omega arith))
 
-      pub columns_row : rows ≤ row → columns.Refused 13 place ≡ columns_in place (texts h payload) row
+      pub columns_row : rows ≤ row → refuse 13 place ≡ columns_in place (texts h payload) row
       columns_row l = simp (good, le-ltb row h.repeat (omega arith))
 
       module _ (l : row < rows) (n : ℕ) (is-n : n ≡ length (text_of h payload row)) where
-        pub columns_good : columns.Are n ≡ columns_in place (texts h payload) row
-        columns_good = ap columns.Are is-n ∙ sym (simp (good, lt-ltb row h.repeat (omega arith)))
+        pub columns_good : Ok n ≡ columns_in place (texts h payload) row
+        columns_good = ap Ok is-n ∙ sym (simp (good, lt-ltb row h.repeat (omega arith)))
 
-        pub element_column : (column : ℕ) → n ≤ column → read.Refused 13 place ≡ element_in place (texts h payload) row column
+        pub element_column : (column : ℕ) → n ≤ column → refuse 13 place ≡ element_in place (texts h payload) row column
         element_column column k = simp (good, lt-ltb row h.repeat (omega arith), le-ltb column (length (text_of h payload row)) (omega arith))
 
         pub element_good : (column : ℕ) (x : Element) → column < n → x ≡ element_at (text_of h payload row) column (code "B")
-            → read.Is x ≡ element_in place (texts h payload) row column
+            → Ok x ≡ element_in place (texts h payload) row column
         unfolding width_of
         element_good column x k e =
-            ap read.Is (e ∙ text_byte h payload row column (omega arith) ∙ ap (λ (y : ℕ). element_at payload y (code "B")) (sym (mul-one (row * h.size + column))))
+            ap Ok (e ∙ text_byte h payload row column (omega arith) ∙ ap (λ (y : ℕ). element_at payload y (code "B")) (sym (mul-one (row * h.size + column))))
             ∙ sym (simp (good, lt-ltb row h.repeat (omega arith), lt-ltb column (length (text_of h payload row)) (omega arith)))

@@ -6,8 +6,10 @@ ghost use Rattle.std.specs.Prelude.{◌≡◌, ◌*◌, ◌<◌, take, drop};
 ghost use Rattle.value.specs.Value.{text_of, texts};
 ghost use Rattle.value.specs.Answer.{element_in, shape_in, columns_in};
 
+use elements::Element;
+use foundation::refusal::{Fault, Refusal};
 use klv::{KLV, wide, wider};
-use value::{Count, Kind, Read, Shape, Shaped};
+use value::{Kind, Shape};
 
 fn widest(row: u32) -> usize
     ensures { (result ≡ row) × (result < 4294967296) }
@@ -40,45 +42,51 @@ pub fn row_text(klv: KLV, payload: &[u8], row: u32) -> &[u8]
 }
 
 // An element of several texts: a byte of the text of a row.
-pub fn element(place: usize, klv: KLV, payload: &[u8], row: usize, column: usize) -> Read
+pub fn element(
+    place: usize,
+    klv: KLV,
+    payload: &[u8],
+    row: usize,
+    column: usize,
+) -> Result<Element, Refusal>
     ensures { result ≡ element_in place (texts klv payload.now) row column }
 {
     if !utf8::are_utf8(payload, wide(klv.size)) {
-        return Read::Refused { number: 7, place };
+        return Err(Fault::Unreadable.at(place));
     }
     if wider(klv.repeat) <= row {
-        return Read::Refused { number: 13, place };
+        return Err(Fault::Outside.at(place));
     }
     let text = row_text(klv, payload, row as u32);
     if text.len() <= column {
-        return Read::Refused { number: 13, place };
+        return Err(Fault::Outside.at(place));
     }
-    Read::Is(elements::element_at(text, column, b'B'))
+    Ok(elements::element_at(text, column, b'B'))
 }
 
 // The columns of a row of several texts: the bytes that its text keeps.
-pub fn columns(place: usize, klv: KLV, payload: &[u8], row: usize) -> Count
+pub fn columns(place: usize, klv: KLV, payload: &[u8], row: usize) -> Result<usize, Refusal>
     ensures { result ≡ columns_in place (texts klv payload.now) row }
 {
     if !utf8::are_utf8(payload, wide(klv.size)) {
-        return Count::Refused { number: 7, place };
+        return Err(Fault::Unreadable.at(place));
     }
     if wider(klv.repeat) <= row {
-        return Count::Refused { number: 13, place };
+        return Err(Fault::Outside.at(place));
     }
     let kept = row_text(klv, payload, row as u32);
-    Count::Are(kept.len())
+    Ok(kept.len())
 }
 
 // The shape of several texts, with the columns of the first.
-pub fn shape(place: usize, klv: KLV, payload: &[u8]) -> Shaped
+pub fn shape(place: usize, klv: KLV, payload: &[u8]) -> Result<Shape, Refusal>
     ensures { result ≡ shape_in place (texts klv payload.now) }
 {
     if !utf8::are_utf8(payload, wide(klv.size)) {
-        return Shaped::Refused { number: 7, place };
+        return Err(Fault::Unreadable.at(place));
     }
     let first = row_text(klv, payload, 0);
-    Shaped::Is(Shape {
+    Ok(Shape {
         kind: Kind::Texts,
         rows: wider(klv.repeat),
         columns: first.len(),

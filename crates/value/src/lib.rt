@@ -2,8 +2,6 @@
 
 #![tactic(auto)]
 
-use elements::Element;
-
 // What a value is called.
 #[derive(Clone, Copy)]
 pub enum Kind {
@@ -27,25 +25,6 @@ pub struct Shape {
     pub kind: Kind,
     pub rows: usize,
     pub columns: usize,
-}
-
-#[derive(Clone, Copy)]
-pub enum Shaped {
-    Is(Shape),
-    Refused { number: u32, place: usize },
-}
-
-// How many there are: the columns of a row, or all elements.
-#[derive(Clone, Copy)]
-pub enum Count {
-    Are(usize),
-    Refused { number: u32, place: usize },
-}
-
-#[derive(Clone, Copy)]
-pub enum Read {
-    Is(Element),
-    Refused { number: u32, place: usize },
 }
 
 // Rows of elements that are all of one letter.
