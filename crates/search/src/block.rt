@@ -2,8 +2,6 @@
 ghost use Rattle.std.specs.Prelude.{◌≡◌, cond, ◌+◌, ◌≤◌, max, length, drop};
 ghost use Rattle.search.specs.Search.{devc, begins, find_from, or_else, with_left};
 
-use crate::Found;
-
 // The places left where DEVC begins at a place, and 0 where it does not.
 fn left_at(s: &[u8], k: usize, left: u8) -> u8
     requires { k + 4 ≤ length s.now }
@@ -41,13 +39,13 @@ fn count(places: u8) -> usize
 }
 
 // The first of some places where DEVC begins.
-pub(crate) fn in_block(s: &[u8], from: usize, places: u8) -> Found
+pub(crate) fn in_block(s: &[u8], from: usize, places: u8) -> Option<usize>
     requires { from + places + 3 ≤ length s.now }
     ensures { find_from s.now from ≡ or_else result (find_from s.now (from + places)) }
 {
     let left = left_from(s, from, places);
     if left == 0 {
-        return Found::Nothing;
+        return None;
     }
-    Found::At(from + count(places - left))
+    Some(from + count(places - left))
 }

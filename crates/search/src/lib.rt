@@ -11,23 +11,15 @@ ghost use Rattle.search.specs.Search.{devc, begins, find_from, devc_or_end, or_e
 
 use filters::Filter;
 
-// What a search finds.
-#[derive(Clone, Copy)]
-pub enum Found {
-    // the place of a DEVC
-    At(usize),
-    Nothing,
-}
-
 // The first DEVC from a place on.
-pub fn find_devc(file: &[u8], from: usize) -> Found
+pub fn find_devc(file: &[u8], from: usize) -> Option<usize>
     ensures { result ≡ find_from file.now from }
 {
     let at = devc_or_end(file, from);
     if at < file.len() {
-        return Found::At(at);
+        return Some(at);
     }
-    Found::Nothing
+    None
 }
 
 // The first DEVC from a place on, or the end of the file. A number, so that it is handed back in a register.
@@ -35,27 +27,27 @@ pub fn devc_or_end(file: &[u8], from: usize) -> usize
     ensures { result ≡ devc_or_end file.now from }
 {
     match seek(file, from) {
-        Found::At(at) => at,
-        Found::Nothing => file.len(),
+        Some(at) => at,
+        None => file.len(),
     }
 }
 
 // The first DEVC from a place on: near, and then behind.
-fn seek(file: &[u8], from: usize) -> Found
+fn seek(file: &[u8], from: usize) -> Option<usize>
     ensures { result ≡ find_from file.now from }
 {
     let n = file.len();
     if n < 4 {
-        return Found::Nothing;
+        return None;
     }
     let end = n - 3;
     if end <= from {
-        return Found::Nothing;
+        return None;
     }
     let near = so_far(from, NEAR, end);
     match by_place(file, from, near) {
-        Found::At(at) => Found::At(at),
-        Found::Nothing => behind(file, near, end),
+        Some(at) => Some(at),
+        None => behind(file, near, end),
     }
 }
 
@@ -79,14 +71,14 @@ fn so_far(from: usize, places: usize, end: usize) -> usize
 }
 
 // The first place of from..end where DEVC begins: by small blocks, and then by great ones.
-fn behind(s: &[u8], from: usize, end: usize) -> Found
+fn behind(s: &[u8], from: usize, end: usize) -> Option<usize>
     requires { (from ≤ end) × (end + 3 ≤ length s.now) }
     ensures { find_from s.now from ≡ or_else result (find_from s.now end) }
 {
     let short = so_far(from, SHORT, end);
     match by_small_blocks(s, from, short) {
-        Found::At(at) => Found::At(at),
-        Found::Nothing => by_blocks(s, short, end),
+        Some(at) => Some(at),
+        None => by_blocks(s, short, end),
     }
 }
 
@@ -99,22 +91,22 @@ pub(crate) fn begins_at(s: &[u8], k: usize) -> bool
 }
 
 // The first place of from..end where DEVC begins, place by place.
-fn by_place(s: &[u8], from: usize, end: usize) -> Found
+fn by_place(s: &[u8], from: usize, end: usize) -> Option<usize>
     requires { (from ≤ end) × (end + 3 ≤ length s.now) }
     ensures { find_from s.now from ≡ or_else result (find_from s.now end) }
 {
     let mut k = from;
     while k < end {
         if begins_at(s, k) {
-            return Found::At(k);
+            return Some(k);
         }
         k += 1;
     }
-    Found::Nothing
+    None
 }
 
 // The same by 32 places at a time.
-fn by_small_blocks(s: &[u8], from: usize, end: usize) -> Found
+fn by_small_blocks(s: &[u8], from: usize, end: usize) -> Option<usize>
     requires { (from ≤ end) × (end + 3 ≤ length s.now) }
     ensures { find_from s.now from ≡ or_else result (find_from s.now end) }
 {
@@ -122,10 +114,10 @@ fn by_small_blocks(s: &[u8], from: usize, end: usize) -> Found
     while 32 <= end - k {
         if filters::by_words(s, k, filters::FIRST, 16) {
             match block::in_block(s, k, 32) {
-                Found::At(at) => {
-                    return Found::At(at);
+                Some(at) => {
+                    return Some(at);
                 }
-                Found::Nothing => {}
+                None => {}
             }
             k += 32;
             continue;
@@ -136,20 +128,20 @@ fn by_small_blocks(s: &[u8], from: usize, end: usize) -> Found
 }
 
 // The first of 128 places where DEVC begins. Of the blocks without DEVC at which the first filter stops, the other words pass most.
-fn in_great_block(s: &[u8], from: usize, which: u8) -> Found
+fn in_great_block(s: &[u8], from: usize, which: u8) -> Option<usize>
     requires { from + 131 ≤ length s.now }
     ensures { find_from s.now from ≡ or_else result (find_from s.now (from + 128)) }
 {
     if which == 0 {
         if !filters::by_words(s, from, filters::LAST, 64) {
-            return Found::Nothing;
+            return None;
         }
     }
     block::in_block(s, from, 128)
 }
 
 // The same by 128 places at a time. Behind a block that was taken for one with DEVC it goes on a place earlier, where other words of two places are compared.
-fn by_blocks(s: &[u8], from: usize, end: usize) -> Found
+fn by_blocks(s: &[u8], from: usize, end: usize) -> Option<usize>
     requires { (from ≤ end) × (end + 3 ≤ length s.now) }
     ensures { find_from s.now from ≡ or_else result (find_from s.now end) }
 {
@@ -164,10 +156,10 @@ fn by_blocks(s: &[u8], from: usize, end: usize) -> Found
             return by_place(s, start, end);
         }
         match in_great_block(s, start, filter.which) {
-            Found::At(at) => {
-                return Found::At(at);
+            Some(at) => {
+                return Some(at);
             }
-            Found::Nothing => {}
+            None => {}
         }
         filter = filter.failed(start - k);
         k = start + 127;

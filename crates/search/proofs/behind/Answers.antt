@@ -3,13 +3,13 @@ use mathlib.Core.Path.{refl, ◌∙◌}
 use Rattle.search.proofs.Find.{past_part}
 use Rattle.search.proofs.behind.Goals as goal
 
-pub returns-in-At : goal.returns-in-At
-returns-in-At c =
+pub returns-in-Some : goal.returns-in-Some
+returns-in-Some c =
     let a = c.args in
-    past_part a.s.now a.from a.from c.so_far-short.result c.by_small_blocks.result _ refl c.by_small_blocks.ensures c.in-At.is
+    past_part a.s.now a.from a.from c.so_far-short.result c.by_small_blocks.result _ refl c.by_small_blocks.ensures c.in-Some.is
 
-pub returns-in-Nothing : goal.returns-in-Nothing
-returns-in-Nothing c =
+pub returns-in-None : goal.returns-in-None
+returns-in-None c =
     let a = c.args in
-    past_part a.s.now a.from a.from c.so_far-short.result c.by_small_blocks.result _ refl c.by_small_blocks.ensures c.in-Nothing.is
+    past_part a.s.now a.from a.from c.so_far-short.result c.by_small_blocks.result _ refl c.by_small_blocks.ensures c.in-None.is
     ∙ c.by_blocks.ensures

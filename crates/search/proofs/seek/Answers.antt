@@ -14,18 +14,18 @@ returns-then-n-lt4 c = sym (no_room _ _ (omega arith))
 pub returns-then-end-from : goal.returns-then-end-from
 returns-then-end-from c = sym (no_room _ _ (omega arith))
 
-pub returns-in-At : goal.returns-in-At
-returns-in-At c =
+pub returns-in-Some : goal.returns-in-Some
+returns-in-Some c =
     let a = c.args in
-    sym (past_part a.file.now a.from a.from c.so_far-near.result c.by_place.result _ refl c.by_place.ensures c.in-At.is)
+    sym (past_part a.file.now a.from a.from c.so_far-near.result c.by_place.result _ refl c.by_place.ensures c.in-Some.is)
 
-pub returns-in-Nothing : goal.returns-in-Nothing
-returns-in-Nothing c =
+pub returns-in-None : goal.returns-in-None
+returns-in-None c =
     let a = c.args in
     let s = a.file.now in
     let found = c.behind.result in
     sym
-    (past_part s a.from a.from c.so_far-near.result c.by_place.result _ refl c.by_place.ensures c.in-Nothing.is
+    (past_part s a.from a.from c.so_far-near.result c.by_place.result _ refl c.by_place.ensures c.in-None.is
     ∙ c.behind.ensures
     ∙ ap (or_else found) (no_room s (length s - 3) (omega arith))
     ∙ alone found)
