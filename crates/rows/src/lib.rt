@@ -36,8 +36,7 @@ const NO_ROOM: u32 = 5;
 pub fn room(numbers: usize) -> usize
     ensures { result ≡ room_of numbers }
 {
-    let rows = numbers / Row::WIDTH;
-    if rows < MOST_ROWS { rows } else { MOST_ROWS }
+    (numbers / Row::WIDTH).min(MOST_ROWS)
 }
 
 // Stores a row as the n-th where there is room for it, and says whether there is.
@@ -96,25 +95,14 @@ pub fn row_at(rows: &[u32], n: usize) -> RowAt
 }
 
 // Whether a row is one of the group and the tag asked for: under tag 0 the key decides.
+#[tactic(auto, using(std::proofs::lemmas::Bool::Decides::nat_tests), unfolding(crate::specs::Lookup::matching))]
 fn matches(row: Row, group_kind: u32, group_key: u32, tag: u32, key: u32) -> bool
     ensures { result ≡ matching group_kind group_key tag key row }
 {
-    if row.group_kind != group_kind {
-        return false;
-    }
-    if row.group_key != group_key {
-        return false;
-    }
-    if row.tag != tag {
-        return false;
-    }
-    if tag != 0 {
-        return true;
-    }
-    if row.key != key {
-        return false;
-    }
-    true
+    row.group_kind == group_kind
+        && row.group_key == group_key
+        && row.tag == tag
+        && (tag != 0 || row.key == key)
 }
 
 // What a lookup finds.
@@ -143,9 +131,7 @@ pub fn lookup(
             place: 0,
         };
     }
-    let mut n = count;
-    while 0 < n {
-        n -= 1;
+    for n in (0..count).rev() {
         if matches(take_row(rows, n), group_kind, group_key, tag, key) {
             return Found::At(n);
         }
