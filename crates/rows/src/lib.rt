@@ -7,9 +7,11 @@ ghost use Rattle.reading.specs.Walk.{room_of};
 ghost use Rattle.rows.specs.Row.{row_of, row_at, Put};
 ghost use Rattle.rows.specs.Lookup.{matching, lookup_of};
 
+use foundation::refusal::{Fault, Refusal};
+
 // What the walk says of an item.
 #[repr(C)]
-#[derive(Clone, Copy)]
+#[derive(Clone, Copy, PartialEq, Eq, Debug)]
 pub struct Row {
     pub place: u32,
     pub group_kind: u32,
@@ -28,9 +30,6 @@ impl Row {
 
 // The most rows of a call, whatever is lent.
 const MOST_ROWS: usize = 4096;
-
-// The refusal of a row that does not fit the room.
-const NO_ROOM: u32 = 5;
 
 // How many rows there is room for in so many lent numbers.
 pub fn room(numbers: usize) -> usize
@@ -76,22 +75,14 @@ fn take_row(rows: &[u32], n: usize) -> Row
     }
 }
 
-// What stands at a row's index.
-#[derive(Clone, Copy)]
-pub enum RowAt {
-    Is(Row),
-    // the lent numbers have no room for such a row
-    Outside,
-}
-
-// The n-th row.
-pub fn row_at(rows: &[u32], n: usize) -> RowAt
+// The n-th row, where the lent numbers have room for it.
+pub fn row_at(rows: &[u32], n: usize) -> Option<Row>
     ensures { result ≡ row_at rows.now n }
 {
     if n < room(rows.len()) {
-        return RowAt::Is(take_row(rows, n));
+        return Some(take_row(rows, n));
     }
-    RowAt::Outside
+    None
 }
 
 // Whether a row is one of the group and the tag asked for: under tag 0 the key decides.
@@ -105,16 +96,7 @@ fn matches(row: Row, group_kind: u32, group_key: u32, tag: u32, key: u32) -> boo
         && (tag != 0 || row.key == key)
 }
 
-// What a lookup finds.
-#[derive(Clone, Copy)]
-pub enum Found {
-    // the index of a row
-    At(usize),
-    Nothing,
-    Refused { number: u32, place: usize },
-}
-
-// The last of the first `count` rows that is of a group and a tag, and under tag 0 of a key.
+// The index of the last of the first `count` rows that is of a group and a tag, and under tag 0 of a key.
 pub fn lookup(
     rows: &[u32],
     count: usize,
@@ -122,19 +104,16 @@ pub fn lookup(
     group_key: u32,
     tag: u32,
     key: u32,
-) -> Found
+) -> Result<Option<usize>, Refusal>
     ensures { result ≡ lookup_of group_kind group_key tag key rows.now count }
 {
     if room(rows.len()) < count {
-        return Found::Refused {
-            number: NO_ROOM,
-            place: 0,
-        };
+        return Err(Fault::NoRoom.at(0));
     }
     for n in (0..count).rev() {
         if matches(take_row(rows, n), group_kind, group_key, tag, key) {
-            return Found::At(n);
+            return Ok(Some(n));
         }
     }
-    Found::Nothing
+    Ok(None)
 }
