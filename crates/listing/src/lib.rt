@@ -44,10 +44,8 @@ pub fn put_rows(out: &mut [u8], at: usize, rows: &[u32], count: usize) -> usize
         return listing_line::put_answer(out, at, refused);
     }
     let mut end = at;
-    let mut n: usize = 0;
-    while n < count {
+    for n in 0..count {
         end = put_row_at(out, end, rows, n);
-        n += 1;
     }
     end
 }
