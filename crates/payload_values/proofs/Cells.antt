@@ -11,8 +11,8 @@ use Rattle.elements.specs.declared.Element.{Element}
 use Rattle.elements.specs.Types.{width_of}
 use Rattle.elements.specs.Element.{element_at}
 use Rattle.value.specs.declared.Grid.{Grid}
-use Rattle.value.specs.declared.Read.TheVariants as read
-use Rattle.value.specs.declared.Shaped.TheVariants as shaped
+use Rattle.std.specs.Prelude.{Ok}
+use Rattle.foundation.specs.Refusals.{refuse}
 use Rattle.value.specs.Value.{gridded}
 use Rattle.value.specs.Answer.{element_in, shape_in}
 
@@ -31,24 +31,24 @@ module _ (g : Grid) (payload : List ℕ) (place width : ℕ) (is-width : width �
   same = ap (λ (w : ℕ). g.rows * g.columns * w) is-width
 
   -- the whole shape must be there
-  pub element_short : (row column : ℕ) → length payload < bytes → read.Refused 6 place ≡ element_in place (gridded g payload) row column
+  pub element_short : (row column : ℕ) → length payload < bytes → refuse 6 place ≡ element_in place (gridded g payload) row column
   element_short row column h = simp (lt-leb (g.rows * g.columns * width_of g.letter) (length payload) (omega (arith, same)))
 
-  pub shape_short : length payload < bytes → shaped.Refused 6 place ≡ shape_in place (gridded g payload)
+  pub shape_short : length payload < bytes → refuse 6 place ≡ shape_in place (gridded g payload)
   shape_short h = simp (lt-leb (g.rows * g.columns * width_of g.letter) (length payload) (omega (arith, same)))
 
   module _ (whole : bytes ≤ length payload) where
-    pub shape_whole : shaped.Is (record { kind = g.kind; rows = g.rows; columns = g.columns }) ≡ shape_in place (gridded g payload)
+    pub shape_whole : Ok (record { kind = g.kind; rows = g.rows; columns = g.columns }) ≡ shape_in place (gridded g payload)
     shape_whole = simp (le-leb (g.rows * g.columns * width_of g.letter) (length payload) (omega (arith, same)))
 
-    pub no_row : (row column : ℕ) → g.rows ≤ row → read.Refused 13 place ≡ element_in place (gridded g payload) row column
+    pub no_row : (row column : ℕ) → g.rows ≤ row → refuse 13 place ≡ element_in place (gridded g payload) row column
     no_row row column h = simp (le-leb (g.rows * g.columns * width_of g.letter) (length payload) (omega (arith, same)), le-ltb row g.rows h)
 
-    pub no_column : (row column : ℕ) → row < g.rows → g.columns ≤ column → read.Refused 13 place ≡ element_in place (gridded g payload) row column
+    pub no_column : (row column : ℕ) → row < g.rows → g.columns ≤ column → refuse 13 place ≡ element_in place (gridded g payload) row column
     no_column row column h k = simp (le-leb (g.rows * g.columns * width_of g.letter) (length payload) (omega (arith, same)), lt-ltb row g.rows h, le-ltb column g.columns k)
 
     pub in_grid_lem : (row column : ℕ) (x : Element) → row < g.rows → column < g.columns → x ≡ element_at payload ((row * g.columns + column) * width) g.letter
-        → read.Is x ≡ element_in place (gridded g payload) row column
+        → Ok x ≡ element_in place (gridded g payload) row column
     in_grid_lem row column x h k e =
-        ap read.Is (e ∙ ap (λ (w : ℕ). element_at payload ((row * g.columns + column) * w) g.letter) is-width)
+        ap Ok (e ∙ ap (λ (w : ℕ). element_at payload ((row * g.columns + column) * w) g.letter) is-width)
         ∙ sym (simp (le-leb (g.rows * g.columns * width_of g.letter) (length payload) (omega (arith, same)), lt-ltb row g.rows h, lt-ltb column g.columns k))

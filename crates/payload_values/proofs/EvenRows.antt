@@ -11,8 +11,9 @@ use Rattle.dates.specs.declared.Date.{Date}
 use Rattle.dates.specs.declared.Date.TheVariants.{Milliseconds, TooFew, Unreadable}
 use Rattle.custom_type.specs.Expansion.{expanded}
 use Rattle.value.specs.declared.Grid.{Grid}
-use Rattle.value.specs.declared.Shaped.{Shaped}
-use Rattle.value.specs.declared.Count.{Count}
+use Rattle.std.specs.Prelude.{Result}
+use Rattle.foundation.specs.declared.refusal.Refusal.{Refusal}
+use Rattle.value.specs.declared.Shape.{Shape}
 use Rattle.value.specs.Value.{ValueOutcome, readable, refused, placed, gridded, dated, column_letters, widths_of, structured, structures, unknown}
 use Rattle.value.specs.Answer.{shape_in, columns_in, columns_by_shape}
 
@@ -21,8 +22,8 @@ module _ (place row : ℕ) where
   Even o = columns_by_shape (shape_in place o) place row ≡ columns_in place o row
 
   -- so they may be read off the shape
-  pub by_shape : (o : ValueOutcome) {s : Shaped} {x : Count} → Even o → s ≡ shape_in place o → x ≡ columns_by_shape s place row → x ≡ columns_in place o row
-  by_shape o even shape is = is ∙ ap (λ (s : Shaped). columns_by_shape s place row) shape ∙ even
+  pub by_shape : (o : ValueOutcome) {s : Result Shape Refusal} {x : Result ℕ Refusal} → Even o → s ≡ shape_in place o → x ≡ columns_by_shape s place row → x ≡ columns_in place o row
+  by_shape o even shape is = is ∙ ap (λ (s : Result Shape Refusal). columns_by_shape s place row) shape ∙ even
 
   either : (b : Bool) (x y : ValueOutcome) → Even x → Even y → Even (cond b x y)
   either true x y p q = p

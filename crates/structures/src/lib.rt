@@ -8,8 +8,10 @@ ghost use Rattle.value.specs.Answer.{element_in, shape_in};
 ghost use Rattle.structures.specs.Row.{RowIs, LetterIs};
 
 use custom_type::Expanded;
+use elements::Element;
+use foundation::refusal::{Fault, Refusal};
 use klv::{KLV, wider};
-use value::{Kind, Read, Shape, Shaped};
+use value::{Kind, Shape};
 
 // A row as its letters make it: the columns, and their bytes.
 #[derive(Clone, Copy)]
@@ -89,35 +91,35 @@ fn element_by(
     letters: &[u8],
     row: usize,
     column: usize,
-) -> Read
+) -> Result<Element, Refusal>
     requires { length letters.now ≤ 256 }
     ensures { result ≡ element_in place (structured (column_letters letters.now) klv payload.now) row column }
 {
     let rows = wider(klv.repeat);
     let all = row_of(letters);
     if payload.len() < rows * all.width {
-        return Read::Refused { number: 6, place };
+        return Err(Fault::TooFew.at(place));
     }
     if rows <= row {
-        return Read::Refused { number: 13, place };
+        return Err(Fault::Outside.at(place));
     }
     if all.columns <= column {
-        return Read::Refused { number: 13, place };
+        return Err(Fault::Outside.at(place));
     }
     let its = letter_of(letters, column);
-    Read::Is(elements::element_at(payload, row * all.width + its.before, its.letter))
+    Ok(elements::element_at(payload, row * all.width + its.before, its.letter))
 }
 
-fn shape_by(place: usize, klv: KLV, payload: &[u8], letters: &[u8]) -> Shaped
+fn shape_by(place: usize, klv: KLV, payload: &[u8], letters: &[u8]) -> Result<Shape, Refusal>
     requires { length letters.now ≤ 256 }
     ensures { result ≡ shape_in place (structured (column_letters letters.now) klv payload.now) }
 {
     let rows = wider(klv.repeat);
     let all = row_of(letters);
     if payload.len() < rows * all.width {
-        return Shaped::Refused { number: 6, place };
+        return Err(Fault::TooFew.at(place));
     }
-    Shaped::Is(Shape {
+    Ok(Shape {
         kind: Kind::Structures,
         rows,
         columns: all.columns,
@@ -132,25 +134,25 @@ pub fn element(
     type_text: &[u8],
     row: usize,
     column: usize,
-) -> Read
+) -> Result<Element, Refusal>
     ensures { result ≡ element_in place (structures type_text.now klv payload.now) row column }
 {
     if type_text.len() == 0 {
-        return Read::Refused { number: 13, place };
+        return Err(Fault::Outside.at(place));
     }
     let mut letters = [0u8; 256];
     match custom_type::resolve_custom_type(type_text, &mut letters) {
-        Expanded::TooLong => Read::Refused { number: 8, place },
+        Expanded::TooLong => Err(Fault::LongType.at(place)),
         Expanded::Characters(n) => element_by(place, klv, payload, &letters[..n], row, column),
     }
 }
 
 // The shape of a structure: without TYPE, or with an empty one, it is unknown.
-pub fn shape(place: usize, klv: KLV, payload: &[u8], type_text: &[u8]) -> Shaped
+pub fn shape(place: usize, klv: KLV, payload: &[u8], type_text: &[u8]) -> Result<Shape, Refusal>
     ensures { result ≡ shape_in place (structures type_text.now klv payload.now) }
 {
     if type_text.len() == 0 {
-        return Shaped::Is(Shape {
+        return Ok(Shape {
             kind: Kind::Unknown,
             rows: 0,
             columns: 0,
@@ -158,7 +160,7 @@ pub fn shape(place: usize, klv: KLV, payload: &[u8], type_text: &[u8]) -> Shaped
     }
     let mut letters = [0u8; 256];
     match custom_type::resolve_custom_type(type_text, &mut letters) {
-        Expanded::TooLong => Shaped::Refused { number: 8, place },
+        Expanded::TooLong => Err(Fault::LongType.at(place)),
         Expanded::Characters(n) => shape_by(place, klv, payload, &letters[..n]),
     }
 }

@@ -8,10 +8,11 @@ use Rattle.custom_type.proofs.Learnt.{accepted, refused}
 use Rattle.value.specs.Value.{ValueOutcome, column_letters, structured}
 use Rattle.value.specs.Answer.{element_in}
 use Rattle.structures.proofs.Structured.{no_type_lem, no_elements, with_type}
+use Rattle.std.specs.Prelude.{Err}
 use Rattle.structures.proofs.element.Goals as goal
 
 pub returns-then-type_text-eq0 : goal.returns-then-type_text-eq0
-returns-then-type_text-eq0 c = sym (ap (λ (o : ValueOutcome). element_in c.args.place o c.args.row c.args.column) (no_type_lem c.args.klv c.args.payload.now c.args.type_text.now c.if-type_text-eq0.true) ∙ no_elements c.args.klv c.args.payload.now c.args.place c.args.row c.args.column)
+returns-then-type_text-eq0 c = ap Err c.at.ensures ∙ sym (ap (λ (o : ValueOutcome). element_in c.args.place o c.args.row c.args.column) (no_type_lem c.args.klv c.args.payload.now c.args.type_text.now c.if-type_text-eq0.true) ∙ no_elements c.args.klv c.args.payload.now c.args.place c.args.row c.args.column)
 
 pub slice_bounds-letters-end : goal.slice_bounds-letters-end
 slice_bounds-letters-end c = (accepted c.resolve_custom_type.ensures c.in-Characters.n c.in-Characters.is).there
@@ -25,7 +26,7 @@ element_by-requires c = let w = accepted c.resolve_custom_type.ensures c.in-Char
 pub returns-in-TooLong : goal.returns-in-TooLong
 returns-in-TooLong c =
     let long = refused c.resolve_custom_type.ensures c.in-TooLong.is in
-    sym (ap (λ (o : ValueOutcome). element_in c.args.place o c.args.row c.args.column) (with_type c.args.klv c.args.payload.now c.args.type_text.now c.if-type_text-eq0.false) ∙ simp long)
+    ap Err c.at-in-TooLong.ensures ∙ sym (ap (λ (o : ValueOutcome). element_in c.args.place o c.args.row c.args.column) (with_type c.args.klv c.args.payload.now c.args.type_text.now c.if-type_text-eq0.false) ∙ simp long)
 
 pub returns-in-Characters : goal.returns-in-Characters
 returns-in-Characters c =

@@ -8,6 +8,7 @@ use Rattle.custom_type.proofs.Learnt.{accepted, refused}
 use Rattle.value.specs.Value.{ValueOutcome, column_letters, structured}
 use Rattle.value.specs.Answer.{shape_in}
 use Rattle.structures.proofs.Structured.{no_type_lem, no_shape, with_type}
+use Rattle.std.specs.Prelude.{Err}
 use Rattle.structures.proofs.shape.Goals as goal
 
 pub returns-then-type_text-eq0 : goal.returns-then-type_text-eq0
@@ -25,7 +26,7 @@ shape_by-requires c = let w = accepted c.resolve_custom_type.ensures c.in-Charac
 pub returns-in-TooLong : goal.returns-in-TooLong
 returns-in-TooLong c =
     let long = refused c.resolve_custom_type.ensures c.in-TooLong.is in
-    sym (ap (λ (o : ValueOutcome). shape_in c.args.place o) (with_type c.args.klv c.args.payload.now c.args.type_text.now c.if-type_text-eq0.false) ∙ simp long)
+    ap Err c.at.ensures ∙ sym (ap (λ (o : ValueOutcome). shape_in c.args.place o) (with_type c.args.klv c.args.payload.now c.args.type_text.now c.if-type_text-eq0.false) ∙ simp long)
 
 pub returns-in-Characters : goal.returns-in-Characters
 returns-in-Characters c =

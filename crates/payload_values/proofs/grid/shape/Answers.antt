@@ -1,8 +1,9 @@
 -- `grid::shape` meets its contract. Assumes nothing.
 use Prim.Native.Nat.{◌*◌}
-use mathlib.Core.Path.{ap}
+use mathlib.Core.Path.{ap, ◌∙◌}
 use native.Mathlib.Omega.{arith}
 use Rattle.payload_values.proofs.Cells.{shape_short, shape_whole}
+use Rattle.std.specs.Prelude.{Err}
 use Rattle.payload_values.proofs.grid.shape.Goals as goal
 
 pub overflow_mul-grid : goal.overflow_mul-grid
@@ -16,7 +17,7 @@ overflow_mul-grid-2 c =
 pub returns-then-payload-grid : goal.returns-then-payload-grid
 returns-then-payload-grid c =
     let a = c.args in
-    shape_short a.grid a.payload.now a.place c.width-width.result c.width-width.ensures.0 c.if-payload-grid.true
+    ap Err c.at.ensures ∙ shape_short a.grid a.payload.now a.place c.width-width.result c.width-width.ensures.0 c.if-payload-grid.true
 
 pub returns : goal.returns
 returns c =
