@@ -7,7 +7,6 @@ ghost use Rattle.value.specs.Value.{column_letters, structured, structures};
 ghost use Rattle.value.specs.Answer.{element_in, shape_in};
 ghost use Rattle.structures.specs.Row.{RowIs, LetterIs};
 
-use custom_type::Expanded;
 use elements::Element;
 use foundation::refusal::{Fault, Refusal};
 use klv::{KLV, wider};
@@ -141,10 +140,9 @@ pub fn element(
         return Err(Fault::Outside.at(place));
     }
     let mut letters = [0u8; 256];
-    match custom_type::resolve_custom_type(type_text, &mut letters) {
-        Expanded::TooLong => Err(Fault::LongType.at(place)),
-        Expanded::Characters(n) => element_by(place, klv, payload, &letters[..n], row, column),
-    }
+    let written = custom_type::resolve_custom_type(type_text, &mut letters);
+    let n = written.map_err(|fault| fault.at(place))?;
+    element_by(place, klv, payload, &letters[..n], row, column)
 }
 
 // The shape of a structure: without TYPE, or with an empty one, it is unknown.
@@ -159,8 +157,7 @@ pub fn shape(place: usize, klv: KLV, payload: &[u8], type_text: &[u8]) -> Result
         });
     }
     let mut letters = [0u8; 256];
-    match custom_type::resolve_custom_type(type_text, &mut letters) {
-        Expanded::TooLong => Err(Fault::LongType.at(place)),
-        Expanded::Characters(n) => shape_by(place, klv, payload, &letters[..n]),
-    }
+    let resolved = custom_type::resolve_custom_type(type_text, &mut letters);
+    let n = resolved.map_err(|fault| fault.at(place))?;
+    shape_by(place, klv, payload, &letters[..n])
 }

@@ -1,6 +1,6 @@
 -- What an item's payload holds: rows of elements, by the letter of its type (document 01, Values; GPMF description, Types).
 -- A value is settled by its header, its payload's bytes and its TYPE text, and by nothing else. Assumes nothing: these are definitions.
-use Rattle.std.specs.Prelude.{ℕ, ◌+◌, ◌*◌, ◌/◌, Bool, cond, not, ◌&&◌, ◌||◌, List, [], ◌∷◌, eqb, leb, length, take, drop, get_or}
+use Rattle.std.specs.Prelude.{ℕ, ◌+◌, ◌*◌, ◌/◌, Bool, cond, not, ◌&&◌, ◌||◌, List, [], ◌∷◌, eqb, leb, length, take, drop, get_or, Err}
 use Prim.Native.Char.{code}
 use Rattle.foundation.specs.Text.{key}
 use Rattle.foundation.specs.Refusals as refusals
@@ -16,7 +16,7 @@ use Rattle.dates.specs.declared.Date.{Date}
 use Rattle.dates.specs.declared.Date.TheVariants.{Milliseconds, TooFew, Unreadable}
 use Rattle.dates.specs.Date.{date_of}
 use Rattle.dates.specs.Date as Date
-use Rattle.custom_type.specs.declared.Expanded.TheVariants.{TooLong}
+use Rattle.foundation.specs.declared.refusal.Fault.TheVariants.{LongType}
 use Rattle.custom_type.specs.Expansion.{expanded}
 use Rattle.custom_type.specs.Resolved as Resolved
 use Rattle.value.specs.declared.Kind.{Kind}
@@ -148,7 +148,7 @@ structured letters h payload = wanting (h.repeat * widths_of letters) payload (s
 -- the TYPE text is written out, to 256 characters at most (refusal 8, of `resolve_custom_type`); no TYPE, or an empty one: unknown
 abbrev pub structures : List ℕ → KLV → List ℕ → ValueOutcome
 structures [] h payload = gridded unknown payload
-structures (c ∷ type) h payload = cond (Resolved.fits (expanded (c ∷ type))) (structured (column_letters (expanded (c ∷ type))) h payload) (refused (Resolved.refusal TooLong))
+structures (c ∷ type) h payload = cond (Resolved.fits (expanded (c ∷ type))) (structured (column_letters (expanded (c ∷ type))) h payload) (refused (Resolved.refusal (Err LongType)))
 
 -- ---- THE VALUE
 
