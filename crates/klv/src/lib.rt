@@ -23,14 +23,14 @@ pub struct KLV {
 pub fn wide(size: u8) -> usize
     ensures { (result ≡ size) × (result < 256) }
 {
-    size as usize
+    usize::from(size)
 }
 
 // A repeat as a number of samples.
 pub fn wider(repeat: u16) -> usize
     ensures { (result ≡ repeat) × (result < 65536) }
 {
-    repeat as usize
+    usize::from(repeat)
 }
 
 impl KLV {
@@ -45,7 +45,7 @@ impl KLV {
     pub fn aligned_data_len(self) -> usize
         ensures { (result ≡ aligned (data_len self)) × (result < 16777220) }
     {
-        (self.data_len() + (Cursor::ALIGNMENT - 1)) / Cursor::ALIGNMENT * Cursor::ALIGNMENT
+        self.data_len().next_multiple_of(Cursor::ALIGNMENT)
     }
 }
 
@@ -60,28 +60,14 @@ impl KLV {
     pub fn is_one_text(self) -> bool
         ensures { result ≡ one_text self }
     {
-        if self.data_type == b'F' {
-            return true;
-        }
-        if self.data_type == b'c' {
-            if self.repeat == 1 {
-                return true;
-            }
-            if self.size == 1 {
-                return true;
-            }
-        }
-        false
+        self.data_type == b'F' || self.data_type == b'c' && (self.repeat == 1 || self.size == 1)
     }
 
     // A TYPE item whose value is one text.
     pub fn is_type_text(self) -> bool
         ensures { result ≡ type_text self }
     {
-        if self.key == TYPE {
-            return self.is_one_text();
-        }
-        false
+        self.key == TYPE && self.is_one_text()
     }
 }
 
