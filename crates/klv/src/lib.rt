@@ -11,7 +11,7 @@ use foundation::big_endian;
 
 // An item's header: its key as one number, its type byte, and the size and the repeat of its samples.
 #[repr(C)]
-#[derive(Clone, Copy)]
+#[derive(Clone, Copy, PartialEq, Eq, Debug)]
 pub struct KLV {
     pub key: u32,
     pub data_type: u8,
@@ -71,11 +71,9 @@ impl KLV {
     }
 }
 
-// What stands at a place.
-#[derive(Clone, Copy)]
-pub enum Header {
-    // an item: its header, and all of its payload behind that
-    Item(KLV),
+// Why no item stands at a place.
+#[derive(Clone, Copy, PartialEq, Eq, Debug)]
+pub enum Broken {
     // fewer than eight bytes
     Short,
     // a header whose payload runs past the end
@@ -96,17 +94,17 @@ fn read_header(s: &[u8]) -> KLV
 }
 
 // What stands first in some bytes.
-fn first_header(s: &[u8]) -> Header
+fn first_header(s: &[u8]) -> Result<KLV, Broken>
     ensures { result ≡ header_of_first s.now }
 {
     if s.len() < Cursor::HEADER {
-        return Header::Short;
+        return Err(Broken::Short);
     }
     let klv = read_header(s);
     if klv.data_len() <= s.len() - Cursor::HEADER {
-        Header::Item(klv)
+        Ok(klv)
     } else {
-        Header::Past
+        Err(Broken::Past)
     }
 }
 
@@ -131,12 +129,12 @@ impl Cursor {
     }
 
     // What stands here in a level, given as the payload up to the level's end.
-    pub fn parse_header(self, s: &[u8]) -> Header
+    pub fn parse_header(self, s: &[u8]) -> Result<KLV, Broken>
         ensures { result ≡ header_at s.now self.at }
     {
         let at = self.at;
         if s.len() < at {
-            return Header::Short;
+            return Err(Broken::Short);
         }
         first_header(&s[at..])
     }
