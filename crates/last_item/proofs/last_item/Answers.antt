@@ -2,6 +2,7 @@ use mathlib.Core.Path.{◌≡◌, sym, ap, ◌∙◌}
 use mathlib.Core.List.{List}
 use native.Mathlib.Omega.{arith}
 use Prim.Native.Nat.{ℕ}
+use Rattle.std.specs.Prelude.{Err}
 use Rattle.klv.specs.declared.Header.{Header}
 use Rattle.klv.specs.Header.{header_at}
 use Rattle.klv.proofs.Place.{at_item}
@@ -18,12 +19,12 @@ heard s at read found = ap (header_at s) (sym at) ∙ sym read ∙ found
 pub returns-in-Short : goal.returns-in-Short
 returns-in-Short c =
     let a = c.args in
-    short a.s.now a.at c.loop-place.place c.loop-place.last c.loop-place.invariant c.loop-place-test.true (heard a.s.now c.new.ensures c.parse_header.ensures c.in-Short.is)
+    ap Err c.at.ensures ∙ short a.s.now a.at c.loop-place.place c.loop-place.last c.loop-place.invariant c.loop-place-test.true (heard a.s.now c.new.ensures c.parse_header.ensures c.in-Short.is)
 
 pub returns-in-Past : goal.returns-in-Past
 returns-in-Past c =
     let a = c.args in
-    past a.s.now a.at c.loop-place.place c.loop-place.last c.loop-place.invariant (heard a.s.now c.new.ensures c.parse_header.ensures c.in-Past.is)
+    ap Err c.at-in-Past.ensures ∙ past a.s.now a.at c.loop-place.place c.loop-place.last c.loop-place.invariant (heard a.s.now c.new.ensures c.parse_header.ensures c.in-Past.is)
 
 pub overflow_add-place-in-Item : goal.overflow_add-place-in-Item
 overflow_add-place-in-Item c =
