@@ -14,8 +14,8 @@ use Rattle.foundation.specs.Pieces.{before, pieces_of}
 use Rattle.foundation.specs.Digits.{worth_of, are_digits, worth}
 use Rattle.foundation.proofs.Digits.{digit_read}
 use Rattle.pieces.proofs.Splitting.{before_length, first_length}
+use Rattle.std.specs.Prelude.{Some, None}
 use Rattle.line.specs.Read.{worth_in64, bytes_in}
-use Rattle.line.specs.declared.Number.TheVariants.{Is, NotOne}
 
 -- as many digits as stand before a digit
 pub worth_found : (c : ℕ) (smaller : List ℕ) → smaller ≡ get_or (pieces_of c digits) 0 [] → (length smaller ≡ worth_of c) × (length smaller ≤ 16)
@@ -58,11 +58,11 @@ module _ (value base digit : ℕ) (b : 0 < base) (d : digit ≤ 16) where
   no_longer_fits h = omega (arith, (div-lt_iff_lt-mul {k = base} {x = 18446744073709551615 - digit} {y = value} b).0 h)
 
 module _ (base : ℕ) (s : List ℕ) where
-  pub fits_64 : (value : ℕ) → worth base s ≡ value → value < 2 ^ 64 → Is value ≡ worth_in64 base s
+  pub fits_64 : (value : ℕ) → worth base s ≡ value → value < 2 ^ 64 → Some value ≡ worth_in64 base s
   unfolding worth_in64
   fits_64 value e h = rw (e, lt-ltb value (2 ^ 64) h)
 
-  pub over_64 : 2 ^ 64 ≤ worth base s → NotOne ≡ worth_in64 base s
+  pub over_64 : 2 ^ 64 ≤ worth base s → None ≡ worth_in64 base s
   unfolding worth_in64
   over_64 h = rw (le-ltb (worth base s) (2 ^ 64) h)
 
