@@ -5,7 +5,7 @@
 ghost use Rattle.std.specs.Prelude.{◌≡◌, take, drop};
 ghost use Rattle.words.specs.Words.{line_from, is_dash, DecodesWord};
 
-use line::Decoded;
+use line::HexError;
 
 // So many bytes from a place on, as far as there are.
 pub fn part(s: &[u8], from: usize, count: usize) -> &[u8]
@@ -27,15 +27,15 @@ pub fn line_from(s: &[u8], from: usize) -> &[u8]
     pieces::piece(part(s, from, s.len()), b'\n', 0)
 }
 
-// The bytes that a word is in hex, laid at the front of a lent buffer: `-` is none, and a word of no characters is no hex.
-pub fn unhex_word(word: &[u8], out: &mut [u8]) -> Decoded
+// How many bytes a word is in hex, which are laid at the front of a lent buffer: `-` is none, and a word of no characters is no hex.
+pub fn unhex_word(word: &[u8], out: &mut [u8]) -> Result<usize, HexError>
     ensures { DecodesWord word.now out.old result out.new }
 {
     if word.len() == 0 {
-        return Decoded::NotHex;
+        return Err(HexError::NotHex);
     }
     if is_dash(word) {
-        return Decoded::Bytes(0);
+        return Ok(0);
     }
     line::unhex(word, out)
 }
