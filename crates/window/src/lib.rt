@@ -7,7 +7,6 @@ ghost use Rattle.search.specs.Search.{find_from};
 ghost use Rattle.window.specs.Steps.{last_bytes, over_held, in_file, read_from, tell_packet, overlapping, read_past, tell_long, seek_end, next_step, Keeps};
 
 use raw_file::{InWindow, Packet, Packets};
-use search::Found;
 
 // The most bytes that are held of a packet.
 pub const MOST_HELD: usize = 65536;
@@ -61,7 +60,7 @@ pub fn next_step(places: Places, window: &[u8], more: bool) -> Step
         return seek_end(places, window, more);
     }
     match Packets::new(places.at).next_in(window, more) {
-        InWindow::Next { packet, rest } => tell_packet(places, packet, rest.at),
+        InWindow::Next(next) => tell_packet(places, next.packet, next.rest.at),
         InWindow::More { from } => read_on(places, window, from),
         InWindow::End => Step::End,
     }
@@ -116,12 +115,12 @@ fn read_past(places: Places, window: &[u8], from: usize) -> Step
 }
 
 // Where the packet starts whose DEVC was found behind another.
-fn overlapping(base: u64, found: Found) -> u64
+fn overlapping(base: u64, found: Option<usize>) -> u64
     ensures { result ≡ overlapping base found }
 {
     match found {
-        Found::At(at) => in_file(in_file(base, at), Packets::HEADER),
-        Found::Nothing => 0,
+        Some(at) => in_file(in_file(base, at), Packets::HEADER),
+        None => 0,
     }
 }
 
@@ -145,8 +144,8 @@ fn seek_end(places: Places, window: &[u8], more: bool) -> Step
     ensures { result ≡ seek_end window.now more places (find_from window.now places.at) }
 {
     match search::find_devc(window, places.at) {
-        Found::At(end) => tell_long(places, end),
-        Found::Nothing => {
+        Some(end) => tell_long(places, end),
+        None => {
             if more {
                 return read_from(places, last_bytes(window.len(), places.at));
             }
