@@ -7,7 +7,6 @@ ghost use Rattle.dates.specs.Date.{date_of};
 ghost use Rattle.value.specs.Value.{dated};
 ghost use Rattle.value.specs.Answer.{element_in, shape_in};
 
-use dates::Date;
 use elements::Element;
 use foundation::refusal::{Fault, Refusal};
 use value::{Kind, Shape};
@@ -21,32 +20,21 @@ pub fn date_element(
 ) -> Result<Element, Refusal>
     ensures { result ≡ element_in place (dated (date_of payload.now)) row column }
 {
-    match dates::parse_utcdate(payload) {
-        Date::TooFew => Err(Fault::TooFew.at(place)),
-        Date::Unreadable => Err(Fault::Unreadable.at(place)),
-        Date::Milliseconds(n) => {
-            if 0 < row {
-                return Err(Fault::Outside.at(place));
-            }
-            if 0 < column {
-                return Err(Fault::Outside.at(place));
-            }
-            Ok(Element::Unsigned(n))
-        }
+    let milliseconds = dates::parse_utcdate(payload).map_err(|fault| fault.at(place))?;
+    if 0 < row || 0 < column {
+        return Err(Fault::Outside.at(place));
     }
+    Ok(Element::Unsigned(milliseconds))
 }
 
 // The shape of a date.
 pub fn date_shape(place: usize, payload: &[u8]) -> Result<Shape, Refusal>
     ensures { result ≡ shape_in place (dated (date_of payload.now)) }
 {
-    match dates::parse_utcdate(payload) {
-        Date::TooFew => Err(Fault::TooFew.at(place)),
-        Date::Unreadable => Err(Fault::Unreadable.at(place)),
-        Date::Milliseconds(_) => Ok(Shape {
-            kind: Kind::DateTime,
-            rows: 1,
-            columns: 1,
-        }),
-    }
+    dates::parse_utcdate(payload).map_err(|fault| fault.at(place))?;
+    Ok(Shape {
+        kind: Kind::DateTime,
+        rows: 1,
+        columns: 1,
+    })
 }
