@@ -8,7 +8,7 @@ ghost use Rattle.reading.specs.Last.{last_item, last_reading};
 ghost use Rattle.last_item.specs.LastItem.{told};
 
 use foundation::refusal::{Fault, Refusal};
-use klv::{Cursor, Header, KLV, MOST_BYTES};
+use klv::{Broken, Cursor, KLV, MOST_BYTES};
 
 // The last item that the chain meets: the place of its header, and the header.
 #[derive(Clone, Copy)]
@@ -25,13 +25,9 @@ pub fn last_item(s: &[u8], at: usize) -> Result<Option<Last>, Refusal>
     let mut last = None;
     while place < s.len() {
         match Cursor::new(place).parse_header(s) {
-            Header::Short => {
-                return Err(Fault::LeftOver.at(place));
-            }
-            Header::Past => {
-                return Err(Fault::PastEnd.at(place));
-            }
-            Header::Item(klv) => {
+            Err(Broken::Short) => return Err(Fault::LeftOver.at(place)),
+            Err(Broken::Past) => return Err(Fault::PastEnd.at(place)),
+            Ok(klv) => {
                 last = Some(Last { place, klv });
                 place = place + Cursor::HEADER + klv.aligned_data_len();
             }
