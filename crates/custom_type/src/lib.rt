@@ -18,15 +18,13 @@ fn measure(text: &[u8]) -> Result<usize, Fault>
 {
     let mut held = Held::new();
     let mut written: usize = 0;
-    let mut i: usize = 0;
-    while i < text.len() {
-        let turn = held.step(text[i]);
+    for c in text {
+        let turn = held.step(*c);
         if 256 - written < turn.times {
             return Err(Fault::LongType);
         }
         written += turn.times;
         held = turn.held;
-        i += 1;
     }
     Ok(written)
 }
@@ -35,14 +33,10 @@ fn measure(text: &[u8]) -> Result<usize, Fault>
 fn fill(part: &mut [u8], character: u8)
     ensures { part.new ≡ replicate (length part.old) character }
 {
-    if part.len() == 1 {
-        part[0] = character;
-        return;
-    }
-    let mut i: usize = 0;
-    while i < part.len() {
-        part[i] = character;
-        i += 1;
+    if let [only] = part {
+        *only = character;
+    } else {
+        part.fill(character);
     }
 }
 
@@ -53,14 +47,12 @@ fn write(text: &[u8], out: &mut [u8])
 {
     let mut held = Held::new();
     let mut at: usize = 0;
-    let mut i: usize = 0;
-    while i < text.len() {
-        let turn = held.step(text[i]);
+    for c in text {
+        let turn = held.step(*c);
         let end = at + turn.times;
         fill(&mut out[at..end], turn.character);
         at = end;
         held = turn.held;
-        i += 1;
     }
 }
 
