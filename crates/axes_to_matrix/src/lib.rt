@@ -3,7 +3,7 @@
 #![tactic(auto)]
 
 ghost use Rattle.std.specs.Prelude.{◌≡◌, length};
-ghost use Rattle.axes.specs.Matrix.{three_ascii, axes_of, orientations_of, small, entry_of, row_of, matrix_of};
+ghost use Rattle.axes.specs.Matrix.{three_ascii, axes_of, orientations_of, entry_of, row_of, matrix_of};
 
 use axes::{Axes, Orientations};
 
@@ -14,19 +14,7 @@ pub const NO_AXES: u32 = 9;
 fn is_three_ascii(text: &[u8]) -> bool
     ensures { result ≡ three_ascii text.now }
 {
-    if text.len() != 3 {
-        return false;
-    }
-    if text[0] >= 128 {
-        return false;
-    }
-    if text[1] >= 128 {
-        return false;
-    }
-    if text[2] >= 128 {
-        return false;
-    }
-    true
+    text.len() == 3 && text.is_ascii()
 }
 
 // The axes of a text of three characters.
@@ -59,16 +47,6 @@ pub fn orientations_of(orin: &[u8], orio: &[u8]) -> Orientations
     }
 }
 
-// The small letter of a letter; any other character is its own.
-fn lowered(c: u8) -> u8
-    ensures { result ≡ small c }
-{
-    if c < b'A' {
-        return c;
-    }
-    if c <= b'Z' { c + 32 } else { c }
-}
-
 // What stands where the row of an ORIO letter meets the column of an ORIN letter.
 fn entry(o: u8, i: u8) -> f32
     ensures { result ≡ entry_of o i }
@@ -76,7 +54,11 @@ fn entry(o: u8, i: u8) -> f32
     if i == o {
         return 1.0;
     }
-    if lowered(i) == lowered(o) { -1.0 } else { 0.0 }
+    if i.eq_ignore_ascii_case(&o) {
+        -1.0
+    } else {
+        0.0
+    }
 }
 
 // The row of an ORIO letter: a column for each ORIN letter.
