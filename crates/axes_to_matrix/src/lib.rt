@@ -6,9 +6,7 @@ ghost use Rattle.std.specs.Prelude.{◌≡◌, length};
 ghost use Rattle.axes.specs.Matrix.{three_ascii, axes_of, orientations_of, entry_of, row_of, matrix_of};
 
 use axes::{Axes, Orientations};
-
-// The refusal of texts that are not three ASCII characters each.
-pub const NO_AXES: u32 = 9;
+use foundation::refusal::{Fault, Refusal};
 
 // Whether a text is three ASCII characters.
 fn is_three_ascii(text: &[u8]) -> bool
@@ -30,21 +28,17 @@ fn axes_of(text: &[u8]) -> Axes
 }
 
 // The axes that the texts of ORIN and ORIO name.
-pub fn orientations_of(orin: &[u8], orio: &[u8]) -> Orientations
+#[tactic(auto, using(axes::proofs::Lengths::three_long), unfolding(axes::specs::Matrix::orientations_of))]
+pub fn orientations_of(orin: &[u8], orio: &[u8]) -> Result<Orientations, Refusal>
     ensures { result ≡ orientations_of orin.now orio.now }
 {
-    if is_three_ascii(orin) {
-        if is_three_ascii(orio) {
-            return Orientations::Are {
-                orin: axes_of(orin),
-                orio: axes_of(orio),
-            };
-        }
+    if is_three_ascii(orin) && is_three_ascii(orio) {
+        return Ok(Orientations {
+            orin: axes_of(orin),
+            orio: axes_of(orio),
+        });
     }
-    Orientations::Refused {
-        number: NO_AXES,
-        place: 0,
-    }
+    Err(Fault::NoAxes.at(0))
 }
 
 // What stands where the row of an ORIO letter meets the column of an ORIN letter.
