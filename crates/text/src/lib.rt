@@ -25,7 +25,7 @@ pub fn put_bytes(out: &mut [u8], at: usize, text: &[u8]) -> usize
     ensures { Lays text.now out.old at result out.new }
 {
     if has_room(out.len(), at, text.len()) {
-        copy(out, at, text);
+        out[at..at + text.len()].copy_from_slice(text);
         return at + text.len();
     }
     FULL
@@ -35,22 +35,5 @@ pub fn put_bytes(out: &mut [u8], at: usize, text: &[u8]) -> usize
 pub fn has_room(len: usize, at: usize, count: usize) -> bool
     ensures { result ≡ leb (at + count) len }
 {
-    if len < at {
-        return false;
-    }
-    if len - at < count {
-        return false;
-    }
-    true
-}
-
-fn copy(out: &mut [u8], at: usize, text: &[u8])
-    requires { at + length text.now ≤ length out.old }
-    ensures { out.new ≡ over out.old at text.now }
-{
-    let mut i: usize = 0;
-    while i < text.len() {
-        out[at + i] = text[i];
-        i += 1;
-    }
+    at <= len && count <= len - at
 }
