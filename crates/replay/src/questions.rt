@@ -1,6 +1,6 @@
 // The questions, a function each: the answer is written, without the end of its line.
-use crate::writing::{write, write_byte, write_decimal, write_hex, write_hex_bytes, write_number};
 use custom_type::Expanded;
+use keys::GroupId;
 use klv::{Cursor, Header, KLV};
 use last_item::LastItem;
 use line::{Decoded, Number};
@@ -21,11 +21,11 @@ fn word(question: &[u8], index: usize) -> &[u8] {
 }
 
 fn write_unknown(rt: &impl Print) -> io::Result<()> {
-    write(rt, b"unknown")
+    rt.write_all(b"unknown")
 }
 
 fn write_err(rt: &impl Print) -> io::Result<()> {
-    write(rt, b"err")
+    rt.write_all(b"err")
 }
 
 fn answer_of(rt: &impl Print, words: usize, question: &[u8], bytes: &[u8]) -> io::Result<()> {
@@ -45,16 +45,12 @@ fn answer_of_two(rt: &impl Print, name: &[u8], place: &[u8], bytes: &[u8]) -> io
 }
 
 fn answer_of_one(rt: &impl Print, name: &[u8], bytes: &[u8]) -> io::Result<()> {
-    if name == b"tag".as_slice() {
-        answer_tag(rt, bytes)
-    } else if name == b"group".as_slice() {
-        answer_group(rt, bytes)
-    } else if name == b"last".as_slice() {
-        answer_last(rt, bytes)
-    } else if name == b"expand".as_slice() {
-        answer_expand(rt, bytes)
-    } else {
-        write_unknown(rt)
+    match name {
+        b"tag" => answer_tag(rt, bytes),
+        b"group" => answer_group(rt, bytes),
+        b"last" => answer_last(rt, bytes),
+        b"expand" => answer_expand(rt, bytes),
+        _ => write_unknown(rt),
     }
 }
 
@@ -75,19 +71,22 @@ fn write_header(rt: &impl Print, header: Header) -> io::Result<()> {
 
 // ok KEY TYPE SIZE REPEAT LENGTH ALIGNED
 fn write_item(rt: &impl Print, klv: KLV) -> io::Result<()> {
-    write(rt, b"ok ")?;
-    write_hex(rt, klv.key as u64, 8)?;
-    write_number(rt, klv.data_type as u64)?;
-    write_number(rt, klv.size as u64)?;
-    write_number(rt, klv.repeat as u64)?;
-    write_number(rt, klv.data_len() as u64)?;
-    write_number(rt, klv.aligned_data_len() as u64)
+    let KLV {
+        key,
+        data_type,
+        size,
+        repeat,
+    } = klv;
+    let length = klv.data_len();
+    let aligned = klv.aligned_data_len();
+    print!(rt; "ok {key:08x} {data_type} {size} {repeat} {length} {aligned}")
 }
 
 // tag KEY
 fn answer_tag(rt: &impl Print, bytes: &[u8]) -> io::Result<()> {
     if bytes.len() == 4 {
-        write_decimal(rt, keys::tag_id(key_of(bytes)) as u64)
+        let tag = keys::tag_id(key_of(bytes));
+        print!(rt; "{tag}")
     } else {
         write_unknown(rt)
     }
@@ -96,10 +95,8 @@ fn answer_tag(rt: &impl Print, bytes: &[u8]) -> io::Result<()> {
 // group KEY
 fn answer_group(rt: &impl Print, bytes: &[u8]) -> io::Result<()> {
     if bytes.len() == 4 {
-        let group = keys::group_from_key(key_of(bytes));
-        write_decimal(rt, group.number as u64)?;
-        write_byte(rt, b' ')?;
-        write_hex(rt, group.key as u64, 8)
+        let GroupId { number, key } = keys::group_from_key(key_of(bytes));
+        print!(rt; "{number} {key:08x}")
     } else {
         write_unknown(rt)
     }
@@ -120,10 +117,10 @@ fn answer_last(rt: &impl Print, payload: &[u8]) -> io::Result<()> {
 
 // ok PLACE LENGTH, of the slice from a place to the end
 fn write_slice(rt: &impl Print, place: usize, end: usize) -> io::Result<()> {
-    write(rt, b"ok")?;
-    write_number(rt, place as u64)?;
+    print!(rt; "ok {place}")?;
     if place <= end {
-        write_number(rt, (end - place) as u64)?;
+        let length = end - place;
+        print!(rt; " {length}")?;
     }
     Ok(())
 }
@@ -132,12 +129,16 @@ fn write_slice(rt: &impl Print, place: usize, end: usize) -> io::Result<()> {
 fn answer_expand(rt: &impl Print, type_text: &[u8]) -> io::Result<()> {
     let mut written = [0u8; 256];
     match custom_type::resolve_custom_type(type_text, &mut written) {
-        Expanded::TooLong => write(rt, b"long"),
-        Expanded::Characters(length) => write_characters(rt, written, length),
+        Expanded::TooLong => rt.write_all(b"long"),
+        Expanded::Characters(length) => write_characters(rt, words::part(&written, 0, length)),
     }
 }
 
-fn write_characters(rt: &impl Print, written: [u8; 256], length: usize) -> io::Result<()> {
-    write(rt, b"ok t")?;
-    write_hex_bytes(rt, words::part(&written, 0, length))
+// The characters in hex.
+fn write_characters(rt: &impl Print, written: &[u8]) -> io::Result<()> {
+    rt.write_all(b"ok t")?;
+    for b in written {
+        print!(rt; "{b:02x}")?;
+    }
+    Ok(())
 }

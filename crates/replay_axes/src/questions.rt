@@ -1,9 +1,8 @@
 // The questions, a function each: the answer is written, without the end of its line.
-use crate::writing::{write, write_byte, write_single};
 use axes::{Axes, Orientation, Orientations};
 use elements::Element;
 use line::Decoded;
-use std::io;
+use std::{array, io};
 
 // The first word behind the name is in hex.
 pub(crate) fn answer(rt: &impl Print, question: &[u8]) -> io::Result<()> {
@@ -19,7 +18,7 @@ fn word(question: &[u8], index: usize) -> &[u8] {
 }
 
 fn write_unknown(rt: &impl Print) -> io::Result<()> {
-    write(rt, b"unknown")
+    rt.write_all(b"unknown")
 }
 
 fn answer_of(rt: &impl Print, question: &[u8], bytes: &[u8]) -> io::Result<()> {
@@ -51,67 +50,48 @@ fn write_matrix(rt: &impl Print, orientations: Orientations) -> io::Result<()> {
             rt,
             axes_to_matrix::orientations_to_matrix(orin, orio),
         ),
-        _ => write(rt, b"none"),
+        _ => rt.write_all(b"none"),
     }
 }
 
-fn write_rows(rt: &impl Print, matrix: [[f32; 3]; 3]) -> io::Result<()> {
-    write(rt, b"ok ")?;
-    write_row(rt, b'[', matrix[0])?;
-    write_row(rt, b';', matrix[1])?;
-    write_row(rt, b';', matrix[2])?;
-    write_byte(rt, b']')
+fn write_rows(rt: &impl Print, [first, second, third]: [[f32; 3]; 3]) -> io::Result<()> {
+    rt.write_all(b"ok [")?;
+    write_row(rt, first)?;
+    rt.write_all(b";")?;
+    write_row(rt, second)?;
+    rt.write_all(b";")?;
+    write_row(rt, third)?;
+    rt.write_all(b"]")
 }
 
-fn write_row(rt: &impl Print, mark: u8, row: [f32; 3]) -> io::Result<()> {
-    write_single(rt, mark, row[0])?;
-    write_single(rt, b';', row[1])?;
-    write_single(rt, b';', row[2])
+// Each by its bits.
+fn write_row(rt: &impl Print, row: [f32; 3]) -> io::Result<()> {
+    let [x, y, z] = row.map(float_bits::single_bits);
+    print!(rt; "f{x:08x};f{y:08x};f{z:08x}")
 }
 
 // back HEX
 fn answer_back(rt: &impl Print, bytes: &[u8]) -> io::Result<()> {
-    let mut numbers = [0.0; 16];
-    fill(bytes, &mut numbers);
-    write_back(
-        rt,
-        matrix_to_axes::mtrx_to_orientation(first_numbers(&numbers, bytes.len() / 4)),
-    )
+    let numbers: [f32; 16] = array::from_fn(|i| number_at(bytes, i));
+    let count = (bytes.len() / 4).min(numbers.len());
+    write_back(rt, matrix_to_axes::mtrx_to_orientation(&numbers[..count]))
 }
 
 fn write_back(rt: &impl Print, orientation: Orientation) -> io::Result<()> {
     match orientation {
         Orientation::Is(axes) => {
             let letters = [axes.first, axes.second, axes.third];
-            write(rt, b"ok ")?;
-            write(rt, &letters)
+            rt.write_all(b"ok ")?;
+            rt.write_all(&letters)
         }
-        _ => write(rt, b"panic"),
+        _ => rt.write_all(b"panic"),
     }
 }
 
-fn fill(bytes: &[u8], numbers: &mut [f32]) {
-    let mut i: usize = 0;
-    while i < numbers.len() {
-        numbers[i] = number_at(bytes, i);
-        i += 1;
-    }
-}
-
-// The i-th of sixteen numbers, 0 where its bytes are not there.
+// The number at an index, 0 where its bytes are not there.
 fn number_at(bytes: &[u8], i: usize) -> f32 {
-    if i > 15 {
-        return 0.0;
-    }
-    match elements::element_at(bytes, i * 4, b'f') {
+    match elements::element_at(bytes, i.saturating_mul(4), b'f') {
         Element::Single(x) => x,
         _ => 0.0,
     }
-}
-
-fn first_numbers(s: &[f32], count: usize) -> &[f32] {
-    if s.len() < count {
-        return s;
-    }
-    &s[0..count]
 }

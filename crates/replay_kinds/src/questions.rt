@@ -1,6 +1,5 @@
 // The one question: kinds FORCED HEX. The answer is written, without the end of its line.
 use crate::kinds;
-use crate::kinds::write;
 use line::Decoded;
 use metadata::Metadata;
 use std::io;
@@ -21,7 +20,7 @@ pub(crate) fn answer(rt: &impl Print, question: &[u8]) -> io::Result<()> {
 }
 
 fn write_unknown(rt: &impl Print) -> io::Result<()> {
-    write(rt, b"unknown")
+    rt.write_all(b"unknown")
 }
 
 fn answer_of(rt: &impl Print, asked: &[u8], payload: &[u8]) -> io::Result<()> {
@@ -42,9 +41,9 @@ fn write_reading(rt: &impl Print, payload: &[u8], forced: bool) -> io::Result<()
             rows: count,
             headers: _,
         } => {
-            write(rt, b"ok")?;
+            rt.write_all(b"ok")?;
             kinds::write_kinds(rt, payload, &rows, count)
         }
-        _ => write(rt, b"err"),
+        _ => rt.write_all(b"err"),
     }
 }

@@ -20,12 +20,8 @@ pub(crate) fn answer(rt: &impl Print, question: &[u8]) -> io::Result<()> {
     }
 }
 
-pub(crate) fn write(rt: &impl Print, s: &[u8]) -> io::Result<()> {
-    rt.write_all(s)
-}
-
 fn write_unknown(rt: &impl Print) -> io::Result<()> {
-    write(rt, b"unknown")
+    rt.write_all(b"unknown")
 }
 
 fn answer_oriented(rt: &impl Print, hex: &[u8]) -> io::Result<()> {
@@ -43,7 +39,7 @@ fn write_reading(rt: &impl Print, payload: &[u8]) -> io::Result<()> {
             rows: count,
             headers: _,
         } => write_oriented(rt, payload, &rows, count),
-        _ => write(rt, b"err"),
+        _ => rt.write_all(b"err"),
     }
 }
 
@@ -53,7 +49,7 @@ fn write_oriented(rt: &impl Print, payload: &[u8], rows: &[u32], count: usize) -
     let accelerometer = orientation::orientation_of_group(payload, rows, count, 1, ACCL);
     let magnetometer = orientation::orientation_of_group(payload, rows, count, 1, MAGN);
     if is_refused(gyroscope) || is_refused(accelerometer) || is_refused(magnetometer) {
-        write(rt, b"panic")
+        rt.write_all(b"panic")
     } else {
         write_groups(rt, gyroscope, accelerometer, magnetometer)
     }
@@ -65,7 +61,7 @@ fn write_groups(
     accelerometer: Oriented,
     magnetometer: Oriented,
 ) -> io::Result<()> {
-    write(rt, b"ok")?;
+    rt.write_all(b"ok")?;
     write_axes(rt, gyroscope, b" GYRO=")?;
     write_axes(rt, accelerometer, b" ACCL=")?;
     write_axes(rt, magnetometer, b" MAGN=")
@@ -83,7 +79,7 @@ fn is_refused(oriented: Oriented) -> bool {
 
 fn write_axes(rt: &impl Print, oriented: Oriented, name: &[u8]) -> io::Result<()> {
     if let Oriented::Is(axes) = oriented {
-        write(rt, name)?;
+        rt.write_all(name)?;
         write_letters(rt, axes)?;
     }
     Ok(())
@@ -91,5 +87,5 @@ fn write_axes(rt: &impl Print, oriented: Oriented, name: &[u8]) -> io::Result<()
 
 fn write_letters(rt: &impl Print, axes: Axes) -> io::Result<()> {
     let letters = [axes.first, axes.second, axes.third];
-    write(rt, &letters)
+    rt.write_all(&letters)
 }

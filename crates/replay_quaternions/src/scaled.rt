@@ -1,5 +1,4 @@
 // The one question: quat HEX. The answer is written, without the end of its line.
-use crate::writing::{write, write_byte, write_double};
 use line::Decoded;
 use metadata::Metadata;
 use quaternions::ScaledRow;
@@ -20,7 +19,7 @@ pub(crate) fn answer(rt: &impl Print, question: &[u8]) -> io::Result<()> {
 }
 
 fn write_unknown(rt: &impl Print) -> io::Result<()> {
-    write(rt, b"unknown")
+    rt.write_all(b"unknown")
 }
 
 fn answer_quaternions(rt: &impl Print, hex: &[u8]) -> io::Result<()> {
@@ -38,11 +37,11 @@ fn write_reading(rt: &impl Print, payload: &[u8]) -> io::Result<()> {
             rows: count,
             headers: _,
         } => {
-            write(rt, b"ok")?;
+            rt.write_all(b"ok")?;
             write_group(rt, payload, &rows, count, CORI, b" CORI=[")?;
             write_group(rt, payload, &rows, count, IORI, b" IORI=[")
         }
-        _ => write(rt, b"err"),
+        _ => rt.write_all(b"err"),
     }
 }
 
@@ -58,9 +57,9 @@ fn write_group(
     if let ScaledRow::Nothing = quaternions::scaled_quaternion(payload, rows, count, 1, key, 0) {
         return Ok(());
     }
-    write(rt, name)?;
+    rt.write_all(name)?;
     write_list(rt, payload, rows, count, key)?;
-    write_byte(rt, b']')
+    rt.write_all(b"]")
 }
 
 // Row after row, up to the first that is refused: it lies outside the value.
@@ -71,33 +70,21 @@ fn write_list(
     count: usize,
     key: u32,
 ) -> io::Result<()> {
-    let mut row: usize = 0;
-    while row < 65536 {
-        match quaternions::scaled_quaternion(payload, rows, count, 1, key, row) {
-            ScaledRow::Is(q) => {
-                write_between(rt, row)?;
-                write_quaternion(rt, q)?;
-                row += 1;
-            }
-            _ => {
-                row = 65536;
-            }
+    for row in 0..65536 {
+        let ScaledRow::Is(q) = quaternions::scaled_quaternion(payload, rows, count, 1, key, row)
+        else {
+            return Ok(());
+        };
+        if row > 0 {
+            rt.write_all(b";")?;
         }
+        write_quaternion(rt, q)?;
     }
     Ok(())
 }
 
-fn write_between(rt: &impl Print, index: usize) -> io::Result<()> {
-    if index > 0 {
-        write_byte(rt, b';')?;
-    }
-    Ok(())
-}
-
+// Each of its numbers by its bits.
 fn write_quaternion(rt: &impl Print, q: Quaternion) -> io::Result<()> {
-    write_double(rt, b'[', q.w)?;
-    write_double(rt, b';', q.x)?;
-    write_double(rt, b';', q.y)?;
-    write_double(rt, b';', q.z)?;
-    write_byte(rt, b']')
+    let [w, x, y, z] = [q.w, q.x, q.y, q.z].map(float_bits::double_bits);
+    print!(rt; "[d{w:016x};d{x:016x};d{y:016x};d{z:016x}]")
 }

@@ -17,16 +17,8 @@ pub(crate) fn answer(rt: &impl Print, question: &[u8]) -> io::Result<()> {
     }
 }
 
-pub(crate) fn write(rt: &impl Print, s: &[u8]) -> io::Result<()> {
-    rt.write_all(s)
-}
-
-fn word(question: &[u8], index: usize) -> &[u8] {
-    pieces::piece(question, b' ', index)
-}
-
 fn write_unknown(rt: &impl Print) -> io::Result<()> {
-    write(rt, b"unknown")
+    rt.write_all(b"unknown")
 }
 
 fn answer_stamp(rt: &impl Print, group: &[u8], hex: &[u8]) -> io::Result<()> {
@@ -44,7 +36,7 @@ fn write_reading(rt: &impl Print, payload: &[u8], group: u32) -> io::Result<()> 
             rows: count,
             headers: _,
         } => write_stamp(rt, stamps::stamp_us(payload, &rows, count, 1, group)),
-        _ => write(rt, b"err"),
+        _ => rt.write_all(b"err"),
     }
 }
 
@@ -58,11 +50,8 @@ fn key_of(word: &[u8]) -> u32 {
 
 fn write_stamp(rt: &impl Print, stamp: Stamp) -> io::Result<()> {
     match stamp {
-        Stamp::Is(us) => {
-            write(rt, b"ok ")?;
-            print!(rt; "{us}")
-        }
-        Stamp::Nothing => write(rt, b"none"),
-        _ => write(rt, b"refused"),
+        Stamp::Is(us) => print!(rt; "ok {us}"),
+        Stamp::Nothing => rt.write_all(b"none"),
+        _ => rt.write_all(b"refused"),
     }
 }

@@ -1,9 +1,9 @@
 // Values as the oracle prints them: row by row, each element behind a letter for its form.
-use crate::writing::{write, write_byte, write_decimal, write_hex, write_signed};
 use elements::Element;
 use rows::RowAt;
 use std::io;
 use value::{Count, Read, Shaped};
+use view::View;
 
 pub(crate) fn write_items(
     rt: &impl Print,
@@ -11,10 +11,8 @@ pub(crate) fn write_items(
     rows: &[u32],
     count: usize,
 ) -> io::Result<()> {
-    let mut n: usize = 0;
-    while n < count {
+    for n in 0..count {
         write_item(rt, payload, rows::row_at(rows, n))?;
-        n += 1;
     }
     Ok(())
 }
@@ -24,53 +22,41 @@ fn write_item(rt: &impl Print, payload: &[u8], row: RowAt) -> io::Result<()> {
     let RowAt::Is(row) = row else {
         return Ok(());
     };
-    let place = row.place as usize;
-    let type_place = row.type_place as usize;
-    match values::shape_at(payload, place, type_place) {
+    write_value(
+        rt,
+        View::new(payload, row.place as usize, row.type_place as usize),
+    )
+}
+
+fn write_value(rt: &impl Print, value: View) -> io::Result<()> {
+    match value.shape() {
         Shaped::Is(shape) => {
-            write_byte(rt, b' ')?;
-            write_decimal(rt, shape.rows as u64)?;
-            write_rows(rt, payload, place, type_place, shape.rows)
+            let rows = shape.rows;
+            print!(rt; " {rows}")?;
+            write_rows(rt, value, rows)
         }
-        _ => write(rt, b" err"),
+        _ => rt.write_all(b" err"),
     }
 }
 
-fn write_rows(
-    rt: &impl Print,
-    payload: &[u8],
-    place: usize,
-    type_place: usize,
-    rows: usize,
-) -> io::Result<()> {
-    let mut row: usize = 0;
-    while row < rows {
-        write_byte(rt, b'/')?;
-        write_columns(rt, payload, place, type_place, row)?;
-        row += 1;
+fn write_rows(rt: &impl Print, value: View, rows: usize) -> io::Result<()> {
+    for row in 0..rows {
+        rt.write_all(b"/")?;
+        write_columns(rt, value, row)?;
     }
     Ok(())
 }
 
-fn write_columns(
-    rt: &impl Print,
-    payload: &[u8],
-    place: usize,
-    type_place: usize,
-    row: usize,
-) -> io::Result<()> {
-    let columns = columns_of(payload, place, type_place, row);
-    let mut column: usize = 0;
-    while column < columns {
-        write_element(rt, values::element(payload, place, type_place, row, column))?;
-        column += 1;
+fn write_columns(rt: &impl Print, value: View, row: usize) -> io::Result<()> {
+    for column in 0..columns_of(value, row) {
+        write_element(rt, value.element(row, column))?;
     }
     Ok(())
 }
 
 // The columns of a row; none where there is no such row.
-fn columns_of(payload: &[u8], place: usize, type_place: usize, row: usize) -> usize {
-    match values::columns_at(payload, place, type_place, row) {
+fn columns_of(value: View, row: usize) -> usize {
+    match value.columns(row) {
         Count::Are(columns) => columns,
         _ => 0,
     }
@@ -82,21 +68,15 @@ fn write_element(rt: &impl Print, read: Read) -> io::Result<()> {
         return Ok(());
     };
     match element {
-        Element::Signed(n) => {
-            write_byte(rt, b'i')?;
-            write_signed(rt, n)
-        }
-        Element::Unsigned(n) => {
-            write_byte(rt, b'u')?;
-            write_decimal(rt, n)
-        }
+        Element::Signed(n) => print!(rt; "i{n}"),
+        Element::Unsigned(n) => print!(rt; "u{n}"),
         Element::Single(x) => {
-            write_byte(rt, b'f')?;
-            write_hex(rt, float_bits::single_bits(x) as u64, 8)
+            let bits = float_bits::single_bits(x);
+            print!(rt; "f{bits:08x}")
         }
         Element::Double(x) => {
-            write_byte(rt, b'd')?;
-            write_hex(rt, float_bits::double_bits(x), 16)
+            let bits = float_bits::double_bits(x);
+            print!(rt; "d{bits:016x}")
         }
     }
 }
