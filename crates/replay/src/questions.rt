@@ -1,9 +1,6 @@
 // The questions, a function each: the answer is written, without the end of its line.
-use custom_type::Expanded;
 use keys::GroupId;
-use klv::{Cursor, Header, KLV};
-use last_item::LastItem;
-use line::{Decoded, Number};
+use klv::{Cursor, KLV};
 use std::io;
 
 // The last word of every question is in hex.
@@ -11,8 +8,8 @@ pub(crate) fn answer(rt: &impl Print, question: &[u8]) -> io::Result<()> {
     let words = pieces::pieces(question, b' ');
     let mut bytes = [0u8; 8192];
     match words::unhex_word(word(question, if words == 3 { 2 } else { 1 }), &mut bytes) {
-        Decoded::Bytes(count) => answer_of(rt, words, question, words::part(&bytes, 0, count)),
-        _ => write_unknown(rt),
+        Ok(count) => answer_of(rt, words, question, words::part(&bytes, 0, count)),
+        Err(_) => write_unknown(rt),
     }
 }
 
@@ -57,15 +54,15 @@ fn answer_of_one(rt: &impl Print, name: &[u8], bytes: &[u8]) -> io::Result<()> {
 // header PLACE HEX
 fn answer_header(rt: &impl Print, place: &[u8], payload: &[u8]) -> io::Result<()> {
     match line::decimal_number(place) {
-        Number::Is(asked) => write_header(rt, Cursor::new(asked as usize).parse_header(payload)),
-        Number::NotOne => write_unknown(rt),
+        Some(asked) => write_header(rt, payload, asked as usize),
+        None => write_unknown(rt),
     }
 }
 
-fn write_header(rt: &impl Print, header: Header) -> io::Result<()> {
-    match header {
-        Header::Item(klv) => write_item(rt, klv),
-        _ => write_err(rt),
+fn write_header(rt: &impl Print, payload: &[u8], place: usize) -> io::Result<()> {
+    match Cursor::new(place).parse_header(payload) {
+        Ok(klv) => write_item(rt, klv),
+        Err(_) => write_err(rt),
     }
 }
 
@@ -109,9 +106,8 @@ fn key_of(bytes: &[u8]) -> u32 {
 // last HEX
 fn answer_last(rt: &impl Print, payload: &[u8]) -> io::Result<()> {
     match last_item::get_last_klv(payload) {
-        LastItem::Nothing => write_slice(rt, 0, payload.len()),
-        LastItem::Last { place, klv: _ } => write_slice(rt, place, payload.len()),
-        _ => write_err(rt),
+        Ok(last) => write_slice(rt, last.map_or(0, |last| last.place), payload.len()),
+        Err(_) => write_err(rt),
     }
 }
 
@@ -129,8 +125,8 @@ fn write_slice(rt: &impl Print, place: usize, end: usize) -> io::Result<()> {
 fn answer_expand(rt: &impl Print, type_text: &[u8]) -> io::Result<()> {
     let mut written = [0u8; 256];
     match custom_type::resolve_custom_type(type_text, &mut written) {
-        Expanded::TooLong => rt.write_all(b"long"),
-        Expanded::Characters(length) => write_characters(rt, words::part(&written, 0, length)),
+        Ok(length) => write_characters(rt, words::part(&written, 0, length)),
+        Err(_) => rt.write_all(b"long"),
     }
 }
 

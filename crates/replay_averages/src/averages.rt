@@ -1,7 +1,6 @@
 // The average duration of a reading, over a list of packets in words: average COUNT:STAMP:DURATION:MISSING ..
-use durations::Average;
 use elements::Element;
-use line::{Decoded, Number};
+use foundation::refusal::Refusal;
 use std::{array, io};
 
 // The most packets of a question.
@@ -32,19 +31,19 @@ fn answer_average(rt: &impl Print, question: &[u8], words: usize) -> io::Result<
     }
 }
 
-fn write_average(rt: &impl Print, average: Average) -> io::Result<()> {
+fn write_average(rt: &impl Print, average: Result<Option<f64>, Refusal>) -> io::Result<()> {
     match average {
-        Average::Is(ms) => {
+        Ok(Some(ms)) => {
             let bits = float_bits::double_bits(ms);
             print!(rt; "ok d{bits:016x}")
         }
-        Average::Nothing => rt.write_all(b"none"),
-        _ => rt.write_all(b"refused"),
+        Ok(None) => rt.write_all(b"none"),
+        Err(_) => rt.write_all(b"refused"),
     }
 }
 
 // The lists have room for more packets than are asked; the shortest says how many there are.
-fn average_of(question: &[u8], words: usize) -> Average {
+fn average_of(question: &[u8], words: usize) -> Result<Option<f64>, Refusal> {
     let counts: [u32; MOST] = array::from_fn(|i| count_of(number_in(question, i, 0)));
     let stamped: [u8; MOST] = array::from_fn(|i| flag(part(question, i, 1), b'-'));
     let stamps: [u64; MOST] = array::from_fn(|i| number_in(question, i, 1));
@@ -61,10 +60,7 @@ fn part(question: &[u8], index: usize, at: usize) -> &[u8] {
 }
 
 fn number_in(question: &[u8], index: usize, at: usize) -> u64 {
-    match line::decimal_number(part(question, index, at)) {
-        Number::Is(n) => n,
-        Number::NotOne => 0,
-    }
+    line::decimal_number(part(question, index, at)).unwrap_or(0)
 }
 
 fn count_of(n: u64) -> u32 {
@@ -79,7 +75,7 @@ fn flag(word: &[u8], no: u8) -> u8 {
 // The f64 of sixteen hex digits.
 fn duration_of(word: &[u8]) -> f64 {
     let mut bytes = [0u8; 64];
-    let Decoded::Bytes(n) = line::unhex(word, &mut bytes) else {
+    let Ok(n) = line::unhex(word, &mut bytes) else {
         return 0.0;
     };
     match elements::element_at(words::part(&bytes, 0, n), 0, b'd') {

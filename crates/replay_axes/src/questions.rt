@@ -1,15 +1,15 @@
 // The questions, a function each: the answer is written, without the end of its line.
-use axes::{Axes, Orientation, Orientations};
+use axes::{Axes, Orientations};
+use foundation::refusal::Refusal;
 use elements::Element;
-use line::Decoded;
 use std::{array, io};
 
 // The first word behind the name is in hex.
 pub(crate) fn answer(rt: &impl Print, question: &[u8]) -> io::Result<()> {
     let mut bytes = [0u8; 8192];
     match words::unhex_word(word(question, 1), &mut bytes) {
-        Decoded::Bytes(count) => answer_of(rt, question, words::part(&bytes, 0, count)),
-        _ => write_unknown(rt),
+        Ok(count) => answer_of(rt, question, words::part(&bytes, 0, count)),
+        Err(_) => write_unknown(rt),
     }
 }
 
@@ -36,21 +36,21 @@ fn answer_of(rt: &impl Print, question: &[u8], bytes: &[u8]) -> io::Result<()> {
 fn answer_matrix(rt: &impl Print, orin: &[u8], hex: &[u8]) -> io::Result<()> {
     let mut orio = [0u8; 64];
     match words::unhex_word(hex, &mut orio) {
-        Decoded::Bytes(count) => write_matrix(
+        Ok(count) => write_matrix(
             rt,
             axes_to_matrix::orientations_of(orin, words::part(&orio, 0, count)),
         ),
-        _ => write_unknown(rt),
+        Err(_) => write_unknown(rt),
     }
 }
 
-fn write_matrix(rt: &impl Print, orientations: Orientations) -> io::Result<()> {
+fn write_matrix(rt: &impl Print, orientations: Result<Orientations, Refusal>) -> io::Result<()> {
     match orientations {
-        Orientations::Are { orin, orio } => write_rows(
+        Ok(Orientations { orin, orio }) => write_rows(
             rt,
             axes_to_matrix::orientations_to_matrix(orin, orio),
         ),
-        _ => rt.write_all(b"none"),
+        Err(_) => rt.write_all(b"none"),
     }
 }
 
@@ -77,14 +77,14 @@ fn answer_back(rt: &impl Print, bytes: &[u8]) -> io::Result<()> {
     write_back(rt, matrix_to_axes::mtrx_to_orientation(&numbers[..count]))
 }
 
-fn write_back(rt: &impl Print, orientation: Orientation) -> io::Result<()> {
-    match orientation {
-        Orientation::Is(axes) => {
+fn write_back(rt: &impl Print, axes: Result<Axes, Refusal>) -> io::Result<()> {
+    match axes {
+        Ok(axes) => {
             let letters = [axes.first, axes.second, axes.third];
             rt.write_all(b"ok ")?;
             rt.write_all(&letters)
         }
-        _ => rt.write_all(b"panic"),
+        Err(_) => rt.write_all(b"panic"),
     }
 }
 

@@ -1,7 +1,7 @@
 // The Rust's names for the kinds of values, with the type where it is a part of the name.
-use rows::RowAt;
+use rows::Row;
 use std::io;
-use value::{Kind, Shape, Shaped};
+use value::{Kind, Shape};
 
 pub(crate) fn write_kinds(
     rt: &impl Print,
@@ -9,20 +9,17 @@ pub(crate) fn write_kinds(
     rows: &[u32],
     count: usize,
 ) -> io::Result<()> {
-    for n in 0..count {
-        write_kind(rt, payload, rows::row_at(rows, n))?;
+    for row in (0..count).filter_map(|n| rows::row_at(rows, n)) {
+        write_kind(rt, payload, row)?;
     }
     Ok(())
 }
 
 // VARIANT of a row's value, with a space before it; the letter of its type stands in the row
-fn write_kind(rt: &impl Print, payload: &[u8], row: RowAt) -> io::Result<()> {
-    let RowAt::Is(row) = row else {
-        return Ok(());
-    };
+fn write_kind(rt: &impl Print, payload: &[u8], row: Row) -> io::Result<()> {
     match values::shape_at(payload, row.place as usize, row.type_place as usize) {
-        Shaped::Is(shape) => write_name(rt, shape, (row.shape / 0x100_0000) as u8),
-        _ => rt.write_all(b" -"),
+        Ok(shape) => write_name(rt, shape, (row.shape / 0x100_0000) as u8),
+        Err(_) => rt.write_all(b" -"),
     }
 }
 

@@ -1,21 +1,19 @@
 // The one question: kinds FORCED HEX. The answer is written, without the end of its line.
 use crate::kinds;
-use line::Decoded;
-use metadata::Metadata;
 use std::io;
 
 // The name and the forcing take eight bytes.
 pub(crate) fn answer(rt: &impl Print, question: &[u8]) -> io::Result<()> {
     let mut payload = [0u8; 8192];
     match words::unhex_word(words::part(question, 8, question.len()), &mut payload) {
-        Decoded::Bytes(count) => {
+        Ok(count) => {
             answer_of(
                 rt,
                 words::part(question, 0, 8),
                 words::part(&payload, 0, count),
             )
         }
-        _ => write_unknown(rt),
+        Err(_) => write_unknown(rt),
     }
 }
 
@@ -37,13 +35,10 @@ fn write_reading(rt: &impl Print, payload: &[u8], forced: bool) -> io::Result<()
     // room for 1,024 rows: more than the bytes of a question have
     let mut rows = [0u32; 8192];
     match metadata::parse_metadata(payload, forced, &mut rows) {
-        Metadata::Rows {
-            rows: count,
-            headers: _,
-        } => {
+        Ok(reading) => {
             rt.write_all(b"ok")?;
-            kinds::write_kinds(rt, payload, &rows, count)
+            kinds::write_kinds(rt, payload, &rows, reading.rows)
         }
-        _ => rt.write_all(b"err"),
+        Err(_) => rt.write_all(b"err"),
     }
 }

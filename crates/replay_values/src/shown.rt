@@ -1,8 +1,7 @@
 // Values as the oracle prints them: row by row, each element behind a letter for its form.
 use elements::Element;
-use rows::RowAt;
+use rows::Row;
 use std::io;
-use value::{Count, Read, Shaped};
 use view::View;
 
 pub(crate) fn write_items(
@@ -11,31 +10,22 @@ pub(crate) fn write_items(
     rows: &[u32],
     count: usize,
 ) -> io::Result<()> {
-    for n in 0..count {
-        write_item(rt, payload, rows::row_at(rows, n))?;
+    for row in (0..count).filter_map(|n| rows::row_at(rows, n)) {
+        write_item(rt, payload, row)?;
     }
     Ok(())
 }
 
 // The value of a row's item, with a space before it
-fn write_item(rt: &impl Print, payload: &[u8], row: RowAt) -> io::Result<()> {
-    let RowAt::Is(row) = row else {
-        return Ok(());
-    };
-    write_value(
-        rt,
-        View::new(payload, row.place as usize, row.type_place as usize),
-    )
-}
-
-fn write_value(rt: &impl Print, value: View) -> io::Result<()> {
+fn write_item(rt: &impl Print, payload: &[u8], row: Row) -> io::Result<()> {
+    let value = View::new(payload, row.place as usize, row.type_place as usize);
     match value.shape() {
-        Shaped::Is(shape) => {
+        Ok(shape) => {
             let rows = shape.rows;
             print!(rt; " {rows}")?;
             write_rows(rt, value, rows)
         }
-        _ => rt.write_all(b" err"),
+        Err(_) => rt.write_all(b" err"),
     }
 }
 
@@ -48,25 +38,16 @@ fn write_rows(rt: &impl Print, value: View, rows: usize) -> io::Result<()> {
 }
 
 fn write_columns(rt: &impl Print, value: View, row: usize) -> io::Result<()> {
-    for column in 0..columns_of(value, row) {
-        write_element(rt, value.element(row, column))?;
+    // none where there is no such row
+    let columns = value.columns(row).unwrap_or(0);
+    for element in (0..columns).filter_map(|column| value.element(row, column).ok()) {
+        write_element(rt, element)?;
     }
     Ok(())
 }
 
-// The columns of a row; none where there is no such row.
-fn columns_of(value: View, row: usize) -> usize {
-    match value.columns(row) {
-        Count::Are(columns) => columns,
-        _ => 0,
-    }
-}
-
 // Bits in hex, whole numbers in decimal, behind a letter for their form.
-fn write_element(rt: &impl Print, read: Read) -> io::Result<()> {
-    let Read::Is(element) = read else {
-        return Ok(());
-    };
+fn write_element(rt: &impl Print, element: Element) -> io::Result<()> {
     match element {
         Element::Signed(n) => print!(rt; "i{n}"),
         Element::Unsigned(n) => print!(rt; "u{n}"),
