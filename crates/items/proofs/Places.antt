@@ -226,6 +226,7 @@ module _ {s : List ℕ} {f : At.Found} {at type : ℕ} where
   pub by_refusal : {r : Refusal} → ItemIs s f at type (Err r) → {A : Type 0} (answer : At.Found → A) → answer (stopped r.number r.place) ≡ answer f
   by_refusal is_item answer = ap answer is_item.told
 
-  pub by_item : {item : Item} → ItemIs s f at type (Ok item) → {A : Type 0} (answer : At.Found → A) {x : A}
-      → x ≡ answer (found item.klv (between item.payload.start item.payload.end s) (between item.type_text.start item.type_text.end s)) → x ≡ answer f
-  by_item is_item answer is = is ∙ ap answer is_item.told
+  pub by_item : {item : Item} → ItemIs s f at type (Ok item) → {A : Type 0} (answer : At.Found → A) {payload text : List ℕ}
+      → payload ≡ between item.payload.start item.payload.end s → text ≡ between item.type_text.start item.type_text.end s
+      → {x : A} → x ≡ answer (found item.klv payload text) → x ≡ answer f
+  by_item {item = it} is_item answer is-payload is-text is = is ∙ (λ i. answer (found it.klv (is-payload i) (is-text i))) ∙ ap answer is_item.told
