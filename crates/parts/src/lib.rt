@@ -2,7 +2,7 @@
 
 #![tactic(auto)]
 
-ghost use Rattle.std.specs.Prelude.{◌≡◌, ◌≤◌, ◌<◌, Ok};
+ghost use Rattle.std.specs.Prelude.{◌≡◌, ◌≤◌, Ok};
 ghost use Rattle.items.specs.At.{found_at};
 ghost use Rattle.parts.specs.Parts.{bytes_of_found, text_of_found, text_by, SmallRow, cut, bytes_from};
 
@@ -59,14 +59,8 @@ pub fn text_at(s: &[u8], at: usize, type_at: usize, row: usize) -> Result<Part, 
 fn bytes_from(s: &[u8], start: usize, length: usize) -> &[u8]
     ensures { result.now ≡ bytes_from start length s.now }
 {
-    if s.len() < start {
-        return &s[..0];
-    }
-    let rest = &s[start..];
-    if rest.len() < length {
-        return rest;
-    }
-    &rest[..length]
+    let rest = &s[start.min(s.len())..];
+    &rest[..length.min(rest.len())]
 }
 
 // A part cut out of what was lent; nothing where it is refused.
