@@ -1,7 +1,7 @@
 // The questions, a function each: the answer is written, without the end of its line.
 use axes::{Axes, Orientations};
-use foundation::refusal::Refusal;
 use elements::Element;
+use foundation::refusal::Refusal;
 use std::{array, io};
 
 // The first word behind the name is in hex.
@@ -22,13 +22,10 @@ fn write_unknown(rt: &impl Print) -> io::Result<()> {
 }
 
 fn answer_of(rt: &impl Print, question: &[u8], bytes: &[u8]) -> io::Result<()> {
-    let name = word(question, 0);
-    if name == b"matrix".as_slice() {
-        answer_matrix(rt, bytes, word(question, 2))
-    } else if name == b"back".as_slice() {
-        answer_back(rt, bytes)
-    } else {
-        write_unknown(rt)
+    match word(question, 0) {
+        b"matrix" => answer_matrix(rt, bytes, word(question, 2)),
+        b"back" => answer_back(rt, bytes),
+        _ => write_unknown(rt),
     }
 }
 

@@ -1,7 +1,5 @@
 // The one question: oriented HEX. The answer is written, without the end of its line.
 use axes::Axes;
-use line::Decoded;
-use metadata::Metadata;
 use orientation::Oriented;
 use std::io;
 
@@ -11,12 +9,10 @@ const ACCL: u32 = 0x4143434c;
 
 const MAGN: u32 = 0x4d41474e;
 
-// The name takes nine bytes, with the space behind it.
 pub(crate) fn answer(rt: &impl Print, question: &[u8]) -> io::Result<()> {
-    if words::part(question, 0, 9) == b"oriented ".as_slice() {
-        answer_oriented(rt, words::part(question, 9, question.len()))
-    } else {
-        write_unknown(rt)
+    match question.strip_prefix(b"oriented ".as_slice()) {
+        Some(hex) => answer_oriented(rt, hex),
+        None => write_unknown(rt),
     }
 }
 
@@ -27,8 +23,8 @@ fn write_unknown(rt: &impl Print) -> io::Result<()> {
 fn answer_oriented(rt: &impl Print, hex: &[u8]) -> io::Result<()> {
     let mut payload = [0u8; 8192];
     match words::unhex_word(hex, &mut payload) {
-        Decoded::Bytes(count) => write_reading(rt, words::part(&payload, 0, count)),
-        _ => write_unknown(rt),
+        Ok(count) => write_reading(rt, words::part(&payload, 0, count)),
+        Err(_) => write_unknown(rt),
     }
 }
 

@@ -1,6 +1,4 @@
 // The one question: quat HEX. The answer is written, without the end of its line.
-use line::Decoded;
-use metadata::Metadata;
 use quaternions::ScaledRow;
 use scaling::Quaternion;
 use std::io;
@@ -9,12 +7,10 @@ const CORI: u32 = 0x434f5249;
 
 const IORI: u32 = 0x494f5249;
 
-// The name takes five bytes, with the space behind it.
 pub(crate) fn answer(rt: &impl Print, question: &[u8]) -> io::Result<()> {
-    if words::part(question, 0, 5) == b"quat ".as_slice() {
-        answer_quaternions(rt, words::part(question, 5, question.len()))
-    } else {
-        write_unknown(rt)
+    match question.strip_prefix(b"quat ".as_slice()) {
+        Some(hex) => answer_quaternions(rt, hex),
+        None => write_unknown(rt),
     }
 }
 
@@ -25,8 +21,8 @@ fn write_unknown(rt: &impl Print) -> io::Result<()> {
 fn answer_quaternions(rt: &impl Print, hex: &[u8]) -> io::Result<()> {
     let mut payload = [0u8; 8192];
     match words::unhex_word(hex, &mut payload) {
-        Decoded::Bytes(count) => write_reading(rt, words::part(&payload, 0, count)),
-        _ => write_unknown(rt),
+        Ok(count) => write_reading(rt, words::part(&payload, 0, count)),
+        Err(_) => write_unknown(rt),
     }
 }
 

@@ -2,18 +2,13 @@
 use crate::shown;
 use std::io;
 
-// The name and the forcing take nine bytes.
 pub(crate) fn answer(rt: &impl Print, question: &[u8]) -> io::Result<()> {
-    let mut payload = [0u8; 8192];
-    match words::unhex_word(words::part(question, 9, question.len()), &mut payload) {
-        Ok(count) => {
-            answer_of(
-                rt,
-                words::part(question, 0, 9),
-                words::part(&payload, 0, count),
-            )
-        }
-        Err(_) => write_unknown(rt),
+    if let Some(hex) = question.strip_prefix(b"values 0 ".as_slice()) {
+        answer_values(rt, hex, false)
+    } else if let Some(hex) = question.strip_prefix(b"values 1 ".as_slice()) {
+        answer_values(rt, hex, true)
+    } else {
+        write_unknown(rt)
     }
 }
 
@@ -21,13 +16,11 @@ fn write_unknown(rt: &impl Print) -> io::Result<()> {
     rt.write_all(b"unknown")
 }
 
-fn answer_of(rt: &impl Print, asked: &[u8], payload: &[u8]) -> io::Result<()> {
-    if asked == b"values 0 ".as_slice() {
-        write_reading(rt, payload, false)
-    } else if asked == b"values 1 ".as_slice() {
-        write_reading(rt, payload, true)
-    } else {
-        write_unknown(rt)
+fn answer_values(rt: &impl Print, hex: &[u8], forced: bool) -> io::Result<()> {
+    let mut payload = [0u8; 8192];
+    match words::unhex_word(hex, &mut payload) {
+        Ok(count) => write_reading(rt, words::part(&payload, 0, count), forced),
+        Err(_) => write_unknown(rt),
     }
 }
 
