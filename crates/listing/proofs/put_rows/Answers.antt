@@ -8,7 +8,7 @@ use Rattle.listing.proofs.put_rows.Goals as goal
 pub returns-then-room-count : goal.returns-then-room-count
 returns-then-room-count c =
     let a = c.args in
-    rw (without_room a.rows.now a.count (omega arith)) c.put_answer.ensures
+    rw (without_room a.rows.now a.count (omega arith)) (rw c.at.ensures at c.put_answer.ensures)
 
 pub loop-n-init : goal.loop-n-init
 unfolding rows_of
