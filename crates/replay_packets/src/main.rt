@@ -5,7 +5,6 @@
 
 mod packets;
 mod questions;
-mod writing;
 
 use std::io;
 use std::io::Read;
@@ -21,21 +20,11 @@ fn input_buffer() -> [u8; 1048576] {
     [0u8; 1048576]
 }
 
-fn answer_all(rt: &impl Print, input: &[u8]) -> io::Result<()> {
-    let mut from: usize = 0;
-    while from < input.len() {
-        let question = words::line_from(input, from);
-        answer_line(rt, question)?;
-        from += question.len() + 1;
-    }
-    Ok(())
-}
-
 // An empty line has no answer.
-fn answer_line(rt: &impl Print, question: &[u8]) -> io::Result<()> {
-    if question.len() > 0 {
+fn answer_all(rt: &impl Print, input: &[u8]) -> io::Result<()> {
+    for question in input.split(|b| *b == b'\n').filter(|line| !line.is_empty()) {
         questions::answer(rt, question)?;
-        writing::write(rt, b"\n")?;
+        rt.write_all(b"\n")?;
     }
     Ok(())
 }
