@@ -1,6 +1,7 @@
 // Text laid into a lent buffer at a place. Each call answers the place behind its text, so that calls follow one another;
 // what does not fit leaves the buffer as it was and is answered FULL, at which nothing fits any more: one look at the last
 // answer tells whether all of them fitted.
+// Buffer and place stay two parameters: the C interface (gpmf_put, gpmf_put_bytes) has them so.
 
 #![tactic(auto)]
 
