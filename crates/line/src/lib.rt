@@ -47,14 +47,8 @@ fn worth(s: &[u8], base: u64) -> Option<u64>
     ensures { result ≡ worth_in64 base s.now }
 {
     let mut value: u64 = 0;
-    let mut i: usize = 0;
-    while i < s.len() {
-        let digit = digit_worth(s[i]);
-        if (u64::MAX - digit) / base < value {
-            return None;
-        }
-        value = value * base + digit;
-        i += 1;
+    for c in s {
+        value = value.checked_mul(base)?.checked_add(digit_worth(*c))?;
     }
     Some(value)
 }
@@ -62,14 +56,7 @@ fn worth(s: &[u8], base: u64) -> Option<u64>
 fn are_digits(s: &[u8], base: u64) -> bool
     ensures { result ≡ are_digits base s.now }
 {
-    let mut i: usize = 0;
-    while i < s.len() {
-        if base <= digit_worth(s[i]) {
-            return false;
-        }
-        i += 1;
-    }
-    true
+    s.iter().all(|c| digit_worth(*c) < base)
 }
 
 // What a digit is worth, as many as stand before it; 16 for a character that is none.
@@ -77,8 +64,7 @@ fn digit_worth(c: u8) -> u64
     ensures { (result ≡ worth_of c) × (result ≤ 16) }
 {
     let digits = b"0123456789abcdef";
-    let smaller = pieces::piece(digits, c, 0);
-    smaller.len() as u64
+    digits.iter().position(|digit| *digit == c).unwrap_or(16) as u64
 }
 
 // How many bytes are in a text of small hex digits, which are laid at the front of a lent buffer.
@@ -105,10 +91,8 @@ fn decode(s: &[u8], out: &mut [u8], count: usize)
     requires count_in_bounds { count ≤ length out.old }
     ensures { out.new ≡ over out.old 0 (bytes_in s.now) }
 {
-    let mut i: usize = 0;
-    while i < count {
+    for i in 0..count {
         out[i] = byte_of(s[2 * i], s[2 * i + 1]);
-        i += 1;
     }
 }
 
