@@ -32,6 +32,10 @@ use Rattle.items.specs.Parts.{between, IsPart, text_at, text_for, type_told, Typ
 
 -- ---- the TYPE text at a place
 
+-- the header that was read is the one at the place asked
+pub heard : (s : List ℕ) {at place : ℕ} {r x : Result KLV Broken} → at ≡ place → r ≡ header_at s at → r ≡ x → header_at s place ≡ x
+heard s here read told = ap (header_at s) (sym here) ∙ sym read ∙ told
+
 none_named : (s : List ℕ) → IsPart 0 0 s
 none_named s = record { order = omega arith; inside = omega arith }
 
