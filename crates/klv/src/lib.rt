@@ -19,14 +19,14 @@ pub struct KLV {
     pub repeat: u16,
 }
 
-// A size as a number of bytes.
+// A size as a number of bytes. It stays beside usize::from: a public function that docs/PROMISES.md promises.
 pub fn wide(size: u8) -> usize
     ensures { (result ≡ size) × (result < 256) }
 {
     usize::from(size)
 }
 
-// A repeat as a number of samples.
+// A repeat as a number of samples. It stays, as `wide` does.
 pub fn wider(repeat: u16) -> usize
     ensures { (result ≡ repeat) × (result < 65536) }
 {
