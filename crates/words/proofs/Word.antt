@@ -9,10 +9,29 @@ use lib.Dec.{eqb, leb-zero}
 use lib.ListN.{length}
 use Rattle.line.specs.Read.{decoded_into, Decodes}
 use Rattle.text.specs.Lay.{laid}
-use Rattle.std.specs.Prelude.{Result, Ok, Err}
+use lib.Pointwise.{pointwise}
+use Rattle.std.specs.Prelude.{◌&&◌, nat_eq, Bool, Result, Ok, Err}
 use Rattle.line.specs.declared.HexError.{HexError}
 use Rattle.line.specs.declared.HexError.TheVariants.{NotHex}
 use Rattle.words.specs.Words.{is_dash, decoded_word, DecodesWord}
+
+-- whether a word is a dash, by comparing it with one
+dash_or_not : (word : List ℕ) → is_dash word ≡ pointwise nat_eq word (45 ∷ [])
+unfolding is_dash
+dash_or_not [] = refl
+dash_or_not (c ∷ []) = by (eqb c 45)
+  where
+    by : (t : Bool) → t ≡ (t && true)
+    by true = refl
+    by false = refl
+dash_or_not (c ∷ b ∷ s) = rw (ne_eqb (length (c ∷ b ∷ s)) 1 (λ e. omega (arith, e))) (by (eqb c 45))
+  where
+    by : (t : Bool) → false ≡ (t && false)
+    by true = refl
+    by false = refl
+
+pub is_dash_by : (word other : List ℕ) → other ≡ 45 ∷ [] → is_dash word ≡ pointwise nat_eq word other
+is_dash_by word other e = rw e (dash_or_not word)
 
 pub no_word : (word out : List ℕ) → length word ≡ 0 → DecodesWord word out (Err NotHex) out
 unfolding decoded_word decoded_into laid

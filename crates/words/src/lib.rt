@@ -3,7 +3,7 @@
 #![tactic(auto)]
 
 ghost use Rattle.std.specs.Prelude.{◌≡◌, take, drop};
-ghost use Rattle.words.specs.Words.{line_from, is_dash, DecodesWord};
+ghost use Rattle.words.specs.Words.{line_from, DecodesWord};
 
 use line::HexError;
 
@@ -11,13 +11,8 @@ use line::HexError;
 pub fn part(s: &[u8], from: usize, count: usize) -> &[u8]
     ensures { result.now ≡ take count (drop from s.now) }
 {
-    if s.len() < from {
-        return &s[..0];
-    }
-    if s.len() - from < count {
-        return &s[from..];
-    }
-    &s[from..from + count]
+    let rest = s.get(from..).unwrap_or(&[]);
+    &rest[..count.min(rest.len())]
 }
 
 // The line that starts at a place, without what ends it; nothing at a place past the end.
@@ -34,17 +29,8 @@ pub fn unhex_word(word: &[u8], out: &mut [u8]) -> Result<usize, HexError>
     if word.len() == 0 {
         return Err(HexError::NotHex);
     }
-    if is_dash(word) {
+    if word == b"-".as_slice() {
         return Ok(0);
     }
     line::unhex(word, out)
-}
-
-fn is_dash(word: &[u8]) -> bool
-    ensures { result ≡ is_dash word.now }
-{
-    if word.len() != 1 {
-        return false;
-    }
-    word[0] == b'-'
 }
