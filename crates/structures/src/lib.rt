@@ -2,7 +2,7 @@
 
 #![tactic(auto)]
 
-ghost use Rattle.std.specs.Prelude.{◌≡◌, cond, ◌&&◌, ◌≤◌, ◌<◌, eqb, ltb, length};
+ghost use Rattle.std.specs.Prelude.{◌≡◌, ◌≤◌, length};
 ghost use Rattle.value.specs.Value.{column_letters, structured, structures};
 ghost use Rattle.value.specs.Answer.{element_in, shape_in};
 ghost use Rattle.structures.specs.Row.{RowIs, LetterIs};
@@ -26,37 +26,19 @@ pub struct Letter {
     pub before: usize,
 }
 
-// A letter that reads something is a column.
-fn column_of(bytes: usize) -> usize
-    ensures { (result ≡ cond (eqb bytes 0) 0 1) × (result ≤ 1) }
-{
-    if bytes == 0 { 0 } else { 1 }
-}
-
-// The letter that is looked for: it reads something, and no more columns stand before it.
-fn is_here(bytes: usize, left: usize) -> bool
-    ensures { result ≡ (ltb 0 bytes && eqb left 0) }
-{
-    if 0 < bytes {
-        if left == 0 {
-            return true;
-        }
-    }
-    false
-}
-
+// The row of letters: each that reads something is a column.
 fn row_of(letters: &[u8]) -> Row
     requires { length letters.now ≤ 256 }
     ensures { RowIs letters.now result }
 {
     let mut columns: usize = 0;
     let mut width: usize = 0;
-    let mut i: usize = 0;
-    while i < letters.len() {
-        let bytes = elements::width(letters[i]);
-        columns += column_of(bytes);
+    for letter in letters {
+        let bytes = elements::width(*letter);
         width += bytes;
-        i += 1;
+        if 0 < bytes {
+            columns += 1;
+        }
     }
     Row { columns, width }
 }
@@ -68,16 +50,18 @@ fn letter_of(letters: &[u8], column: usize) -> Letter
 {
     let mut left = column;
     let mut before: usize = 0;
-    let mut i: usize = 0;
-    while i < letters.len() {
-        let letter = letters[i];
-        let bytes = elements::width(letter);
-        if is_here(bytes, left) {
-            return Letter { letter, before };
+    for letter in letters {
+        let bytes = elements::width(*letter);
+        if 0 < bytes {
+            if left == 0 {
+                return Letter {
+                    letter: *letter,
+                    before,
+                };
+            }
+            left -= 1;
         }
-        left -= column_of(bytes);
         before += bytes;
-        i += 1;
     }
     Letter { letter: 0, before }
 }

@@ -2,7 +2,9 @@
 
 #![tactic(auto)]
 
-ghost use Rattle.std.specs.Prelude.{◌≡◌, ◌*◌, ◌<◌, take, drop};
+ghost use Rattle.std.specs.Prelude.{◌≡◌, ◌*◌, cond, Ok, take, drop};
+ghost use Rattle.foundation.specs.Refusals.{refuse, unreadable};
+ghost use Rattle.texts.specs.Texts.{are_well_formed};
 ghost use Rattle.value.specs.Value.{text_of, texts};
 ghost use Rattle.value.specs.Answer.{element_in, shape_in, columns_in};
 
@@ -11,18 +13,12 @@ use foundation::refusal::{Fault, Refusal};
 use klv::{KLV, wide, wider};
 use value::{Kind, Shape};
 
-fn widest(row: u32) -> usize
-    ensures { (result ≡ row) × (result < 4294967296) }
-{
-    row as usize
-}
-
 // The room of the text of a row, as far as the payload goes.
 fn room_of(klv: KLV, payload: &[u8], row: u32) -> &[u8]
     ensures { result.now ≡ take klv.size (drop (row * klv.size) payload.now) }
 {
     let size = wide(klv.size);
-    let start = widest(row) * size;
+    let start = row as usize * size;
     if payload.len() < start {
         return &payload[..0];
     }
@@ -41,7 +37,19 @@ pub fn row_text(klv: KLV, payload: &[u8], row: u32) -> &[u8]
     &room[..kept]
 }
 
+// Refuses texts of which one is not UTF-8.
+fn readable(place: usize, klv: KLV, payload: &[u8]) -> Result<(), Refusal>
+    ensures { result ≡ cond (are_well_formed klv.size payload.now) (Ok tt) (refuse unreadable place) }
+{
+    if utf8::are_utf8(payload, wide(klv.size)) {
+        Ok(())
+    } else {
+        Err(Fault::Unreadable.at(place))
+    }
+}
+
 // An element of several texts: a byte of the text of a row.
+#[tactic(auto, using(crate::proofs::SeveralTexts::text_element))]
 pub fn element(
     place: usize,
     klv: KLV,
@@ -51,9 +59,7 @@ pub fn element(
 ) -> Result<Element, Refusal>
     ensures { result ≡ element_in place (texts klv payload.now) row column }
 {
-    if !utf8::are_utf8(payload, wide(klv.size)) {
-        return Err(Fault::Unreadable.at(place));
-    }
+    readable(place, klv, payload)?;
     if wider(klv.repeat) <= row {
         return Err(Fault::Outside.at(place));
     }
@@ -68,9 +74,7 @@ pub fn element(
 pub fn columns(place: usize, klv: KLV, payload: &[u8], row: usize) -> Result<usize, Refusal>
     ensures { result ≡ columns_in place (texts klv payload.now) row }
 {
-    if !utf8::are_utf8(payload, wide(klv.size)) {
-        return Err(Fault::Unreadable.at(place));
-    }
+    readable(place, klv, payload)?;
     if wider(klv.repeat) <= row {
         return Err(Fault::Outside.at(place));
     }
@@ -82,9 +86,7 @@ pub fn columns(place: usize, klv: KLV, payload: &[u8], row: usize) -> Result<usi
 pub fn shape(place: usize, klv: KLV, payload: &[u8]) -> Result<Shape, Refusal>
     ensures { result ≡ shape_in place (texts klv payload.now) }
 {
-    if !utf8::are_utf8(payload, wide(klv.size)) {
-        return Err(Fault::Unreadable.at(place));
-    }
+    readable(place, klv, payload)?;
     let first = row_text(klv, payload, 0);
     Ok(Shape {
         kind: Kind::Texts,
