@@ -1,7 +1,7 @@
 // The one question: quat HEX. The answer is written, without the end of its line.
-use quaternions::ScaledRow;
 use scaling::Quaternion;
 use std::io;
+use tagged::Group;
 
 const CORI: u32 = 0x434f5249;
 
@@ -29,46 +29,36 @@ fn answer_quaternions(rt: &impl Print, hex: &[u8]) -> io::Result<()> {
 fn write_reading(rt: &impl Print, payload: &[u8]) -> io::Result<()> {
     let mut rows = [0u32; 16384];
     match metadata::parse_metadata(payload, false, &mut rows) {
-        Metadata::Rows {
-            rows: count,
-            headers: _,
-        } => {
+        Ok(reading) => {
+            let cori = Group {
+                payload,
+                rows: &rows,
+                count: reading.rows,
+                kind: 1,
+                key: CORI,
+            };
             rt.write_all(b"ok")?;
-            write_group(rt, payload, &rows, count, CORI, b" CORI=[")?;
-            write_group(rt, payload, &rows, count, IORI, b" IORI=[")
+            write_group(rt, cori, b" CORI=[")?;
+            write_group(rt, Group { key: IORI, ..cori }, b" IORI=[")
         }
-        _ => rt.write_all(b"err"),
+        Err(_) => rt.write_all(b"err"),
     }
 }
 
 // The quaternions of a group, where it has any.
-fn write_group(
-    rt: &impl Print,
-    payload: &[u8],
-    rows: &[u32],
-    count: usize,
-    key: u32,
-    name: &[u8],
-) -> io::Result<()> {
-    if let ScaledRow::Nothing = quaternions::scaled_quaternion(payload, rows, count, 1, key, 0) {
+fn write_group(rt: &impl Print, group: Group, name: &[u8]) -> io::Result<()> {
+    if let Ok(None) = quaternions::scaled_quaternion(group, 0) {
         return Ok(());
     }
     rt.write_all(name)?;
-    write_list(rt, payload, rows, count, key)?;
+    write_list(rt, group)?;
     rt.write_all(b"]")
 }
 
 // Row after row, up to the first that is refused: it lies outside the value.
-fn write_list(
-    rt: &impl Print,
-    payload: &[u8],
-    rows: &[u32],
-    count: usize,
-    key: u32,
-) -> io::Result<()> {
+fn write_list(rt: &impl Print, group: Group) -> io::Result<()> {
     for row in 0..65536 {
-        let ScaledRow::Is(q) = quaternions::scaled_quaternion(payload, rows, count, 1, key, row)
-        else {
+        let Ok(Some(q)) = quaternions::scaled_quaternion(group, row) else {
             return Ok(());
         };
         if row > 0 {

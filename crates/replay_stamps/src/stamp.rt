@@ -1,6 +1,7 @@
 // The one question: stamp GROUPKEY HEX. The answer is written, without the end of its line.
 use foundation::refusal::Refusal;
 use std::io;
+use tagged::Group;
 
 // The key takes eight bytes, with one more behind it.
 pub(crate) fn answer(rt: &impl Print, question: &[u8]) -> io::Result<()> {
@@ -18,21 +19,27 @@ fn write_unknown(rt: &impl Print) -> io::Result<()> {
     rt.write_all(b"unknown")
 }
 
-fn answer_stamp(rt: &impl Print, group: &[u8], hex: &[u8]) -> io::Result<()> {
+fn answer_stamp(rt: &impl Print, key: &[u8], hex: &[u8]) -> io::Result<()> {
     let mut payload = [0u8; 8192];
     match words::unhex_word(hex, &mut payload) {
-        Ok(count) => write_reading(rt, words::part(&payload, 0, count), key_of(group)),
+        Ok(count) => write_reading(rt, words::part(&payload, 0, count), key_of(key)),
         Err(_) => write_unknown(rt),
     }
 }
 
-fn write_reading(rt: &impl Print, payload: &[u8], group: u32) -> io::Result<()> {
+fn write_reading(rt: &impl Print, payload: &[u8], key: u32) -> io::Result<()> {
     let mut rows = [0u32; 16384];
     match metadata::parse_metadata(payload, false, &mut rows) {
-        Ok(reading) => write_stamp(
-            rt,
-            stamps::stamp_us(payload, &rows, reading.rows, 1, group),
-        ),
+        Ok(reading) => {
+            let group = Group {
+                payload,
+                rows: &rows,
+                count: reading.rows,
+                kind: 1,
+                key,
+            };
+            write_stamp(rt, stamps::stamp_us(group))
+        }
         Err(_) => rt.write_all(b"err"),
     }
 }
