@@ -9,6 +9,7 @@ ghost use Rattle.orientation_answers.specs.Answers.{of_orientations, of_orientat
 use axes::Axes;
 use matrix_answers::Matrix;
 use orientation_answers::{AxesAnswer, OrientationsAnswer};
+use tagged::Group;
 
 // The axes of the texts of ORIN and ORIO.
 #[unsafe(no_mangle)]
@@ -55,7 +56,12 @@ pub extern "C" fn gpmf_orientation_of_group(
 ) -> AxesAnswer
     ensures { result ≡ of_oriented (orientation_of_group payload.now rows.now count group_kind group_key) }
 {
-    orientation_answers::of_oriented(orientation::orientation_of_group(
-        payload, rows, count, group_kind, group_key,
-    ))
+    let group = Group {
+        payload,
+        rows,
+        count,
+        kind: group_kind,
+        key: group_key,
+    };
+    orientation_answers::of_oriented(orientation::orientation_of_group(group))
 }

@@ -13,6 +13,7 @@ use answers::{ItemAnswer, WholeAnswer};
 use klv::KLV;
 use orientation_answers::QuaternionAnswer;
 use scaling::Quaternion;
+use tagged::Group;
 use value_answers::RealAnswer;
 
 // The item of a group and tag.
@@ -28,7 +29,14 @@ pub extern "C" fn gpmf_tagged_item(
 ) -> ItemAnswer
     ensures { result ≡ of_tagged (tagged_of s.now rows.now count group_kind group_key tag key) }
 {
-    answers::of_tagged(tagged::tagged_item(s, rows, count, group_kind, group_key, tag, key))
+    let group = Group {
+        payload: s,
+        rows,
+        count,
+        kind: group_kind,
+        key: group_key,
+    };
+    answers::of_tagged(group.tagged(tag, key))
 }
 
 // Whether a header is that of one number of a letter, but for its key.
@@ -67,9 +75,14 @@ pub extern "C" fn gpmf_scaled_quaternion(
 ) -> QuaternionAnswer
     ensures { result ≡ of_scaled_row (quaternion_of s.now rows.now count group_kind group_key row) }
 {
-    orientation_answers::of_scaled_row(quaternions::scaled_quaternion(
-        s, rows, count, group_kind, group_key, row,
-    ))
+    let group = Group {
+        payload: s,
+        rows,
+        count,
+        kind: group_kind,
+        key: group_key,
+    };
+    orientation_answers::of_scaled_row(quaternions::scaled_quaternion(group, row))
 }
 
 // The stamp of a group in microseconds.
@@ -83,7 +96,14 @@ pub extern "C" fn gpmf_stamp_us(
 ) -> WholeAnswer
     ensures { result ≡ of_stamp (stamp_of s.now rows.now count group_kind group_key) }
 {
-    answers::of_stamp(stamps::stamp_us(s, rows, count, group_kind, group_key))
+    let group = Group {
+        payload: s,
+        rows,
+        count,
+        kind: group_kind,
+        key: group_key,
+    };
+    answers::of_stamp(stamps::stamp_us(group))
 }
 
 // Milliseconds for a reading, over a list of packets.
