@@ -279,8 +279,7 @@ use Rattle.float_bits.proofs.single_bits.Kinds as single-bits-kinds
 use Rattle.float_bits.proofs.single_bits.Reads as single-bits-reads
 use Rattle.float_bits.proofs.double_bits.Kinds as double-bits-kinds
 use Rattle.float_bits.proofs.double_bits.Reads as double-bits-reads
-use Rattle.tagged.proofs.tagged_item.Kinds as tagged-item-kinds
-use Rattle.tagged.proofs.tagged_item.Reads as tagged-item-reads
+use Rattle.tagged.specs.contracts.Group.tagged as group-tagged-promise
 use Rattle.tagged.proofs.is_one_number.Kinds as is-one-number-kinds
 use Rattle.tagged.proofs.is_one_number.Reads as is-one-number-reads
 use Rattle.scaling.proofs.negated.Kinds as negated-kinds
@@ -605,9 +604,6 @@ single_bits_lem κs a x y s t p q = p ∙ sym q
 pub double_bits_lem : OneResult 0 double-bits-kinds.ps double-bits-kinds.r double-bits-reads.Learnt
 double_bits_lem κs a x y s t p q = p ∙ sym q
 
-pub tagged_item : OneResult 2 tagged-item-kinds.ps tagged-item-kinds.r tagged-item-reads.Learnt
-tagged_item κs a x y s t p q = p ∙ sym q
-
 pub is_one_number : OneResult 0 is-one-number-kinds.ps is-one-number-kinds.r is-one-number-reads.Learnt
 is_one_number κs a x y s t p q = p ∙ sym q
 
@@ -759,7 +755,7 @@ both_said : {M : Type 1} (𝓤 : Ura M) (φ ψ χ : Type 0) → (φ → ψ → �
 both_said 𝓤 φ ψ χ f =
     fact_use 𝓤 φ (fst∗ 𝓤 (fact 𝓤 φ) (fact 𝓤 ψ)) (λ p. fact_use 𝓤 ψ (snd∗ 𝓤 (fact 𝓤 φ) (fact 𝓤 ψ)) (λ q. fact_i 𝓤 χ (sep 𝓤 (fact 𝓤 φ) (fact 𝓤 ψ)) (f p q)))
 
--- of a method of a view nothing is read off the source but the clauses themselves: what they ensure of two results, together, says that what `of` reads of them is the same
+-- of a method of a view or a group nothing is read off the source but the clauses themselves: what they ensure of two results, together, says that what `of` reads of them is the same
 abbrev pub OneOfMethod : {M : Type 1} (𝓤 : Ura M) {B : Type 0} (T : Ended) → ((κs : Lfts T.signature.lifetimes) → Res T.signature κs → B) → Clauses 𝓤 T → Type 1
 OneOfMethod 𝓤 T of promise =
     (κs : Lfts T.signature.lifetimes) (a : Args T.signature κs) (g : (promise κs a).ghost) (x y : Res T.signature κs) (s t : AtExit T κs)
@@ -788,3 +784,8 @@ view_new {𝓤 = 𝓤} 𝓛 mem run κs a g x y s t = both_said 𝓤 _ _ (x ≡ 
 
 pub view_part : {M : Type 1} {𝓤 : Ura M} (𝓛 : Logic 𝓤) (mem : Memory → SProp 𝓤) (run : Routine → Fun 𝓤) → OneOfMethod 𝓤 view-part-promise.ended (λ κs r. r.now) (view-part-promise.clauses 𝓛 mem run)
 view_part {𝓤 = 𝓤} 𝓛 mem run κs a g x y s t = both_said 𝓤 _ _ (x.now ≡ y.now) (λ p q. p ∙ sym q)
+
+-- ---- a group, by the clauses as of a view
+
+pub tagged_item : {M : Type 1} {𝓤 : Ura M} (𝓛 : Logic 𝓤) (mem : Memory → SProp 𝓤) (run : Routine → Fun 𝓤) → OneOfMethod 𝓤 group-tagged-promise.ended (λ κs r. r) (group-tagged-promise.clauses 𝓛 mem run)
+tagged_item {𝓤 = 𝓤} 𝓛 mem run κs a g x y s t = both_said 𝓤 _ _ (x ≡ y) (λ p q. p ∙ sym q)

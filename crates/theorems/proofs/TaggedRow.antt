@@ -25,7 +25,7 @@ use Rattle.rows.proofs.Search.{rows_of_records}
 use Rattle.items.specs.At as At
 use Rattle.items.specs.At.{found_at}
 use Rattle.values.specs.At.{klv_of_found}
-use Rattle.tagged.specs.Tagged.{item_by, tagged_at, item_of, tagged_of}
+use Rattle.tagged.specs.Tagged.{item_is, item_by, tagged_at, item_of, tagged_of}
 use Rattle.tagged.specs.declared.Tagged.{Tagged}
 use Rattle.klv.specs.declared.KLV.{KLV}
 use Rattle.std.specs.Prelude.{Option, Some, None, Result, Ok, Err}
@@ -37,10 +37,6 @@ use Rattle.newer_camera.proofs.Value.{found_there}
 -- an item, none, or a refusal
 abbrev pub Answer : Type 0
 Answer = Result (Option Tagged) Refusal
-
--- there is one, of a header at a place
-abbrev pub is : KLV → ℕ → Answer
-is h place = Ok (Some (record { klv = h; place = place }))
 
 -- the item of a later record, or else that of this one
 abbrev pub later_item : Answer → Answer → Answer
@@ -59,7 +55,7 @@ module _ (kind of-group tag key : ℕ) where
   -- THE LAST ONE of some records: its header and its place
   abbrev pub last_item_of : List Record → Answer
   last_item_of [] = Ok None
-  last_item_of (r ∷ rs) = later_item (last_item_of rs) (cond (asked r) (is r.content.header r.place) (Ok None))
+  last_item_of (r ∷ rs) = later_item (last_item_of rs) (cond (asked r) (item_is r.content.header r.place) (Ok None))
 
 -- ---- the proof
 
@@ -74,7 +70,7 @@ module _ (s : List ℕ) (within : length s ≤ most_bytes) where
       go (Err r) = refl
 
   -- of a record that stands there, whatever TYPE is in force
-  there : (r : Record) → Stands s r → tagged_at s r.place ≡ is r.content.header r.place
+  there : (r : Record) → Stands s r → tagged_at s r.place ≡ item_is r.content.header r.place
   unfolding tagged_at
   there r stands =
       ap (λ (f : At.Found). item_by (klv_of_found f) r.place)
@@ -99,12 +95,12 @@ module _ (s : List ℕ) (within : length s ≤ most_bytes) where
           let behind : drop (suc n * row_width) all ≡ flat_map numbers rs ++ rest =
           ap (λ (k : ℕ). drop k all) further ∙ sym (drop-drop row_width (n * row_width) all) ∙ ap (drop row_width) e in
           let place : (row_of all n).place ≡ r.place = ap (λ (l : List ℕ). (taken l).place) e in
-          let its : tagged_at s (row_of all n).place ≡ is r.content.header r.place = ap (tagged_at s) place ∙ there r (stand r (Memᴰ.head refl)) in
+          let its : tagged_at s (row_of all n).place ≡ item_is r.content.header r.place = ap (tagged_at s) place ∙ there r (stand r (Memᴰ.head refl)) in
           later (last_from kind of-group tag key (suc n) (map (λ (q : Record). taken (numbers q)) rs)) _
           ∙ (λ i. later_item (from rest (suc n) rs behind (λ q m. stand q (Memᴰ.tail m)) i) (here its (asked kind of-group tag key r) i))
         where
-          here : tagged_at s (row_of all n).place ≡ is r.content.header r.place → (b : Bool)
-              → item (cond b (Some n) None) ≡ cond b (is r.content.header r.place) (Ok None)
+          here : tagged_at s (row_of all n).place ≡ item_is r.content.header r.place → (b : Bool)
+              → item (cond b (Some n) None) ≡ cond b (item_is r.content.header r.place) (Ok None)
           here its true = its
           here its false = refl
 
