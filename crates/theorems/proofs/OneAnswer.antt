@@ -255,8 +255,7 @@ use Rattle.matrix_to_axes.proofs.matrix_to_orientation.Kinds as matrix-to-orient
 use Rattle.matrix_to_axes.proofs.matrix_to_orientation.Reads as matrix-to-orientation-reads
 use Rattle.matrix_to_axes.proofs.mtrx_to_orientation.Kinds as mtrx-to-orientation-kinds
 use Rattle.matrix_to_axes.proofs.mtrx_to_orientation.Reads as mtrx-to-orientation-reads
-use Rattle.orientation.proofs.orientation_of_group.Kinds as orientation-of-group-kinds
-use Rattle.orientation.proofs.orientation_of_group.Reads as orientation-of-group-reads
+use Rattle.orientation.specs.contracts.orientation_of_group as orientation-of-group-promise
 use Rattle.search.proofs.find_devc.Kinds as find-devc-kinds
 use Rattle.search.proofs.find_devc.Reads as find-devc-reads
 use Rattle.search.proofs.devc_or_end.Kinds as devc-or-end-kinds
@@ -286,10 +285,8 @@ use Rattle.scaling.proofs.negated.Kinds as negated-kinds
 use Rattle.scaling.proofs.negated.Reads as negated-reads
 use Rattle.scaling.proofs.scaled.Kinds as scaled-kinds
 use Rattle.scaling.proofs.scaled.Reads as scaled-reads
-use Rattle.quaternions.proofs.scaled_quaternion.Kinds as scaled-quaternion-kinds
-use Rattle.quaternions.proofs.scaled_quaternion.Reads as scaled-quaternion-reads
-use Rattle.stamps.proofs.stamp_us.Kinds as stamp-us-kinds
-use Rattle.stamps.proofs.stamp_us.Reads as stamp-us-reads
+use Rattle.quaternions.specs.contracts.scaled_quaternion as scaled-quaternion-promise
+use Rattle.stamps.specs.contracts.stamp_us as stamp-us-promise
 use Rattle.durations.proofs.get_avg_sample_duration.Kinds as get-avg-sample-duration-kinds
 use Rattle.durations.proofs.get_avg_sample_duration.Reads as get-avg-sample-duration-reads
 use Rattle.elements.proofs.exact_at.Kinds as exact-at-kinds
@@ -568,9 +565,6 @@ matrix_to_orientation κs a x y s t p q = p ∙ sym q
 pub mtrx_to_orientation : OneResult 1 mtrx-to-orientation-kinds.ps mtrx-to-orientation-kinds.r mtrx-to-orientation-reads.Learnt
 mtrx_to_orientation κs a x y s t p q = p ∙ sym q
 
-pub orientation_of_group_lem : OneResult 2 orientation-of-group-kinds.ps orientation-of-group-kinds.r orientation-of-group-reads.Learnt
-orientation_of_group_lem κs a x y s t p q = p ∙ sym q
-
 pub find_devc : OneResult 1 find-devc-kinds.ps find-devc-kinds.r find-devc-reads.Learnt
 find_devc κs a x y s t p q = p ∙ sym q
 
@@ -612,12 +606,6 @@ negated κs a x y s t p q = p ∙ sym q
 
 pub scaled : OneResult 0 scaled-kinds.ps scaled-kinds.r scaled-reads.Learnt
 scaled κs a x y s t p q = p ∙ sym q
-
-pub scaled_quaternion : OneResult 2 scaled-quaternion-kinds.ps scaled-quaternion-kinds.r scaled-quaternion-reads.Learnt
-scaled_quaternion κs a x y s t p q = p ∙ sym q
-
-pub stamp_us : OneResult 2 stamp-us-kinds.ps stamp-us-kinds.r stamp-us-reads.Learnt
-stamp_us κs a x y s t p q = p ∙ sym q
 
 pub get_avg_sample_duration : OneResult 5 get-avg-sample-duration-kinds.ps get-avg-sample-duration-kinds.r get-avg-sample-duration-reads.Learnt
 get_avg_sample_duration κs a x y s t p q = p ∙ sym q
@@ -755,7 +743,7 @@ both_said : {M : Type 1} (𝓤 : Ura M) (φ ψ χ : Type 0) → (φ → ψ → �
 both_said 𝓤 φ ψ χ f =
     fact_use 𝓤 φ (fst∗ 𝓤 (fact 𝓤 φ) (fact 𝓤 ψ)) (λ p. fact_use 𝓤 ψ (snd∗ 𝓤 (fact 𝓤 φ) (fact 𝓤 ψ)) (λ q. fact_i 𝓤 χ (sep 𝓤 (fact 𝓤 φ) (fact 𝓤 ψ)) (f p q)))
 
--- of a method of a view or a group nothing is read off the source but the clauses themselves: what they ensure of two results, together, says that what `of` reads of them is the same
+-- of a method of a view, and of what is asked of a group, nothing is read off the source but the clauses themselves: what they ensure of two results, together, says that what `of` reads of them is the same
 abbrev pub OneOfMethod : {M : Type 1} (𝓤 : Ura M) {B : Type 0} (T : Ended) → ((κs : Lfts T.signature.lifetimes) → Res T.signature κs → B) → Clauses 𝓤 T → Type 1
 OneOfMethod 𝓤 T of promise =
     (κs : Lfts T.signature.lifetimes) (a : Args T.signature κs) (g : (promise κs a).ghost) (x y : Res T.signature κs) (s t : AtExit T κs)
@@ -789,3 +777,12 @@ view_part {𝓤 = 𝓤} 𝓛 mem run κs a g x y s t = both_said 𝓤 _ _ (x.now
 
 pub tagged_item : {M : Type 1} {𝓤 : Ura M} (𝓛 : Logic 𝓤) (mem : Memory → SProp 𝓤) (run : Routine → Fun 𝓤) → OneOfMethod 𝓤 group-tagged-promise.ended (λ κs r. r) (group-tagged-promise.clauses 𝓛 mem run)
 tagged_item {𝓤 = 𝓤} 𝓛 mem run κs a g x y s t = both_said 𝓤 _ _ (x ≡ y) (λ p q. p ∙ sym q)
+
+pub orientation_of_group_lem : {M : Type 1} {𝓤 : Ura M} (𝓛 : Logic 𝓤) (mem : Memory → SProp 𝓤) (run : Routine → Fun 𝓤) → OneOfMethod 𝓤 orientation-of-group-promise.ended (λ κs r. r) (orientation-of-group-promise.clauses 𝓛 mem run)
+orientation_of_group_lem {𝓤 = 𝓤} 𝓛 mem run κs a g x y s t = both_said 𝓤 _ _ (x ≡ y) (λ p q. p ∙ sym q)
+
+pub scaled_quaternion : {M : Type 1} {𝓤 : Ura M} (𝓛 : Logic 𝓤) (mem : Memory → SProp 𝓤) (run : Routine → Fun 𝓤) → OneOfMethod 𝓤 scaled-quaternion-promise.ended (λ κs r. r) (scaled-quaternion-promise.clauses 𝓛 mem run)
+scaled_quaternion {𝓤 = 𝓤} 𝓛 mem run κs a g x y s t = both_said 𝓤 _ _ (x ≡ y) (λ p q. p ∙ sym q)
+
+pub stamp_us : {M : Type 1} {𝓤 : Ura M} (𝓛 : Logic 𝓤) (mem : Memory → SProp 𝓤) (run : Routine → Fun 𝓤) → OneOfMethod 𝓤 stamp-us-promise.ended (λ κs r. r) (stamp-us-promise.clauses 𝓛 mem run)
+stamp_us {𝓤 = 𝓤} 𝓛 mem run κs a g x y s t = both_said 𝓤 _ _ (x ≡ y) (λ p q. p ∙ sym q)
