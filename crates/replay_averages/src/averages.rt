@@ -42,7 +42,8 @@ fn write_average(rt: &impl Print, average: Result<Option<f64>, Refusal>) -> io::
     }
 }
 
-// The lists have room for more packets than are asked; the shortest says how many there are.
+// Lists side by side, as `get_avg_sample_duration` takes them: the C interface.
+// They have room for more packets than are asked; the shortest says how many there are.
 fn average_of(question: &[u8], words: usize) -> Result<Option<f64>, Refusal> {
     let counts: [u32; MOST] = array::from_fn(|i| count_of(number_in(question, i, 0)));
     let stamped: [u8; MOST] = array::from_fn(|i| flag(part(question, i, 1), b'-'));

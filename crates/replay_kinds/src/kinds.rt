@@ -3,6 +3,7 @@ use rows::Row;
 use std::io;
 use value::{Kind, Shape};
 
+// The lent numbers and how many rows they hold, as `row_at` and `lookup` of `rows` take them: the C interface.
 pub(crate) fn write_kinds(
     rt: &impl Print,
     payload: &[u8],

@@ -4,6 +4,7 @@ use rows::Row;
 use std::io;
 use view::View;
 
+// The lent numbers and how many rows they hold, as `row_at` and `lookup` of `rows` take them: the C interface.
 pub(crate) fn write_items(
     rt: &impl Print,
     payload: &[u8],

@@ -1,5 +1,5 @@
 -- ONE ANSWER: for each public call, two answers that both keep its promise on the same arguments are equal.
--- `Learnt` is what the prover reads off the `ensures` of the source: no promise is copied here. Assumes nothing.
+-- A lemma for each call, since each has a type of its own by the source. `Learnt` is what the prover reads off the `ensures` of the source: no promise is copied here. Assumes nothing.
 use Prim.Native.Nat.{ℕ}
 use mathlib.Core.Path.{◌≡◌, sym, ◌∙◌}
 use mathlib.Core.List.{List}

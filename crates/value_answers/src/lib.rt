@@ -36,7 +36,7 @@ pub fn of_average(x: Result<Option<f64>, Refusal>) -> RealAnswer
     }
 }
 
-// The forms of a number.
+// The forms of a number, told as numbers: the C interface.
 pub const SIGNED: u32 = 0;
 
 pub const UNSIGNED: u32 = 1;
