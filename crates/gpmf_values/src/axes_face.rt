@@ -9,7 +9,6 @@ ghost use Rattle.orientation_answers.specs.Answers.{of_orientations, of_orientat
 use axes::Axes;
 use matrix_answers::Matrix;
 use orientation_answers::{AxesAnswer, OrientationsAnswer};
-use tagged::Group;
 
 // The axes of the texts of ORIN and ORIO.
 #[unsafe(no_mangle)]
@@ -56,7 +55,7 @@ pub extern "C" fn gpmf_orientation_of_group(
 ) -> AxesAnswer
     ensures { result ≡ of_oriented (orientation_of_group payload.now rows.now count group_kind group_key) }
 {
-    let group = Group {
+    let group = tagged::Group {
         payload,
         rows,
         count,

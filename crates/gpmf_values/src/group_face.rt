@@ -13,7 +13,6 @@ use answers::{ItemAnswer, WholeAnswer};
 use klv::KLV;
 use orientation_answers::QuaternionAnswer;
 use scaling::Quaternion;
-use tagged::Group;
 use value_answers::RealAnswer;
 
 // The item of a group and tag.
@@ -29,7 +28,7 @@ pub extern "C" fn gpmf_tagged_item(
 ) -> ItemAnswer
     ensures { result ≡ of_tagged (tagged_of s.now rows.now count group_kind group_key tag key) }
 {
-    let group = Group {
+    let group = tagged::Group {
         payload: s,
         rows,
         count,
@@ -75,7 +74,7 @@ pub extern "C" fn gpmf_scaled_quaternion(
 ) -> QuaternionAnswer
     ensures { result ≡ of_scaled_row (quaternion_of s.now rows.now count group_kind group_key row) }
 {
-    let group = Group {
+    let group = tagged::Group {
         payload: s,
         rows,
         count,
@@ -96,7 +95,7 @@ pub extern "C" fn gpmf_stamp_us(
 ) -> WholeAnswer
     ensures { result ≡ of_stamp (stamp_of s.now rows.now count group_kind group_key) }
 {
-    let group = Group {
+    let group = tagged::Group {
         payload: s,
         rows,
         count,
