@@ -25,6 +25,7 @@ use Rattle.metadata.proofs.parse_metadata.Reads as promise
 use Rattle.std.specs.Prelude.{Ok, Err}
 use Rattle.foundation.specs.Refusals.{refuse}
 use Rattle.walk.specs.Metadata.{told, Read}
+use Rattle.walk.proofs.Passes as passes
 use Rattle.walk.proofs.Passes.{Answer, counted}
 use Rattle.newer_camera.specs.PutIn.{PutIn}
 use Rattle.newer_camera.specs.OtherBytes.{OtherBytes}
@@ -167,7 +168,7 @@ newer_camera_call forced {s = s} {t = t} put old was n headers held is answer be
     go : (o : Outcome) → reading_of forced s (room_of (length old)) ≡ o → counted n headers ≡ told o → was ≡ lent o old → Called forced put n was room answer is
     go (refused why at) e a w = let z : ◌≡◌ {A = ℕ} 0 1 = cc in absurd (omega arith)
     go (accepted rs k) e a w =
-        let as_many : n ≡ length rs = cc in
+        let as_many : n ≡ length rs = ap passes.rows_in a in
         rw (as_many, w, after.is, after.rows)
         (met_called forced put rs (accepted_within forced s (room_of (length old)) rs k e) (read_stands forced s (room_of (length old)) rs k e) (drop (length rs * row_width) old) held room
         (reading_of forced t room) ((newer_camera forced s t put (room_of (length old)) rs k e).met room))
