@@ -51,6 +51,7 @@ fn take_all(
     let mut held = Held::default();
     let mut places = START;
     let mut counts = Counts::default();
+    // so many that no file has more: a `loop` is not seen to end
     for _ in 0..u64::MAX {
         let window = held::first(bytes, held.count);
         match window::next_step(places, window, !held.ended) {

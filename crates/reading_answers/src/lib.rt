@@ -1,4 +1,5 @@
 // Rows, readings and packets as plain records of numbers, for callers in other languages, as crate `answers` has it.
+// Each record has a kind, a number and a place of its own, and kinds are numbers: the C interface.
 
 #![tactic(auto)]
 

@@ -3,6 +3,7 @@ use klv::{Cursor, KLV};
 use rows::Row;
 use std::io;
 
+// The lent numbers and how many rows they hold, as `row_at` and `lookup` of `rows` take them: the C interface.
 pub(crate) fn write_rows(
     rt: &impl Print,
     payload: &[u8],

@@ -21,7 +21,8 @@ fn input_buffer() -> [u8; 2097152] {
     [0u8; 2097152]
 }
 
-// An empty line has no answer.
+// An empty line has no answer. Each replay has this for itself: a public function that takes what answers would have a
+// `requires`, and none has one.
 fn answer_all(rt: &impl Print, input: &[u8]) -> io::Result<()> {
     for question in input.split(|b| *b == b'\n').filter(|line| !line.is_empty()) {
         questions::answer(rt, question)?;

@@ -17,7 +17,8 @@ pub struct Taken {
     pub accepted: bool,
 }
 
-// Lays a packet of a file, by its number, its start in the file and its bytes.
+// Lays a packet of a file, by its number, its start in the file and its bytes; lent in parts, as `gpmf_put_packet` takes
+// them: the C interface.
 pub fn put_packet(
     payload: &[u8],
     number: u64,
