@@ -32,9 +32,6 @@ overflow_add-place-in-Ok c =
     let w = at_item c.args.s.now c.loop-place.place c.in-Ok.klv (heard c.args.s.now c.new.ensures c.parse_header.ensures c.in-Ok.is) in
     omega (arith, w.fits, c.aligned_data_len.ensures.0)
 
-pub loop-place-smaller : goal.loop-place-smaller
-loop-place-smaller c = omega (arith, c.loop-place-test.true)
-
 pub loop-place-preserved : goal.loop-place-preserved
 loop-place-preserved c =
     let a = c.args in
