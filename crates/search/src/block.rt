@@ -10,12 +10,6 @@ fn left_at(s: &[u8], k: usize, left: u8) -> u8
     if crate::begins_at(s, k) { left } else { 0 }
 }
 
-fn greater(a: u8, b: u8) -> u8
-    ensures { result ≡ max a b }
-{
-    if a < b { b } else { a }
-}
-
 // How many of some places are left from the first DEVC on, 0 where there is none: the greatest count is the first place's.
 fn left_from(s: &[u8], from: usize, places: u8) -> u8
     requires { from + places + 3 ≤ length s.now }
@@ -24,18 +18,13 @@ fn left_from(s: &[u8], from: usize, places: u8) -> u8
     let mut most: u8 = 0;
     let mut left: u8 = places;
     let mut k = from;
+    // over a range of places it is slower: with DEVC at each distance of 4 to 512 the search takes a tenth more
     while 0 < left {
-        most = greater(most, left_at(s, k, left));
+        most = most.max(left_at(s, k, left));
         left -= 1;
         k += 1;
     }
     most
-}
-
-fn count(places: u8) -> usize
-    ensures { result ≡ places }
-{
-    places as usize
 }
 
 // The first of some places where DEVC begins.
@@ -47,5 +36,5 @@ pub(crate) fn in_block(s: &[u8], from: usize, places: u8) -> Option<usize>
     if left == 0 {
         return None;
     }
-    Some(from + count(places - left))
+    Some(from + usize::from(places - left))
 }

@@ -21,7 +21,7 @@ returns-in-Some c =
 pub loop-k-preserved : goal.loop-k-preserved
 loop-k-preserved c =
     let a = c.args in
-    let none = past_part a.s.now c.pass-start.result c.pass-start.result (c.pass-start.result + 128) c.in_great_block.result _ refl c.in_great_block.ensures c.in-None.is in
+    let none = past_part a.s.now c.pass-start.result c.pass-start.result (c.pass-start.result + 128) c.in_great_block.result _ refl c.in_great_block.ensures (c.in_default.is) in
     (search rules, c.loop-k.invariant.1 ∙ c.pass-start.ensures.2 ∙ comes_to a.s.now c.pass-start.result (c.pass-start.result + 127) (c.pass-start.result + 128) (omega arith) (omega arith) none)
 
 pub returns : goal.returns

@@ -15,7 +15,7 @@ returns-in-Some c =
 pub loop-k-preserved-then-by_words : goal.loop-k-preserved-then-by_words
 loop-k-preserved-then-by_words c =
     let a = c.args in
-    (search rules, past_part a.s.now a.from c.loop-k.k (c.loop-k.k + 32) c.in_block.result _ c.loop-k.invariant.1 c.in_block.ensures c.in-None.is)
+    (search rules, past_part a.s.now a.from c.loop-k.k (c.loop-k.k + 32) c.in_block.result _ c.loop-k.invariant.1 c.in_block.ensures (c.in_default.is))
 
 pub loop-k-preserved : goal.loop-k-preserved
 loop-k-preserved c = (search rules, c.loop-k.invariant.1 ∙ c.by_words.ensures c.if-by_words.false)

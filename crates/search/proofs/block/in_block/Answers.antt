@@ -18,7 +18,7 @@ returns c =
     let a = c.args in
     let left = c.left_from-left.result in
     let fits = c.left_from-left.ensures.0 in
-    let place : a.from + a.places - left ≡ a.from + c.count.result = omega arith in
+    let place : a.from + a.places - left ≡ a.from + c.from.result = omega arith in
     c.left_from-left.ensures.1
     ∙ ap (λ (found : Option ℕ). or_else found (find_from a.s.now (a.from + a.places)))
     (some_left (a.from + a.places) left c.if-left-eq0.false ∙ ap Some place)
