@@ -11,7 +11,7 @@ use foundation::refusal::{Fault, Refusal};
 use klv::{Broken, Cursor, KLV, MOST_BYTES};
 
 // The last item that the chain meets: the place of its header, and the header.
-#[derive(Clone, Copy)]
+#[derive(Clone, Copy, PartialEq, Eq, Debug)]
 pub struct Last {
     pub place: usize,
     pub klv: KLV,
