@@ -8,30 +8,7 @@ use elements::Element;
 use foundation::refusal::{Fault, Refusal};
 use value::{Grid, Shape};
 
-// The element at a row and a column: first the whole shape must be there.
-pub(crate) fn element(
-    grid: Grid,
-    place: usize,
-    payload: &[u8],
-    row: usize,
-    column: usize,
-) -> Result<Element, Refusal>
-    requires { Counted grid }
-    ensures { result ≡ element_in place (gridded grid payload.now) row column }
-{
-    let width = elements::width(grid.letter);
-    if payload.len() < grid.rows * grid.columns * width {
-        return Err(Fault::TooFew.at(place));
-    }
-    if grid.rows <= row {
-        return Err(Fault::Outside.at(place));
-    }
-    if grid.columns <= column {
-        return Err(Fault::Outside.at(place));
-    }
-    Ok(elements::element_at(payload, (row * grid.columns + column) * width, grid.letter))
-}
-
+// Its shape: the bytes of all its cells must be there.
 pub(crate) fn shape(grid: Grid, place: usize, payload: &[u8]) -> Result<Shape, Refusal>
     requires { Counted grid }
     ensures { result ≡ shape_in place (gridded grid payload.now) }
@@ -45,4 +22,23 @@ pub(crate) fn shape(grid: Grid, place: usize, payload: &[u8]) -> Result<Shape, R
         rows: grid.rows,
         columns: grid.columns,
     })
+}
+
+// The element at a row and a column: first the whole shape must be there.
+pub(crate) fn element(
+    grid: Grid,
+    place: usize,
+    payload: &[u8],
+    row: usize,
+    column: usize,
+) -> Result<Element, Refusal>
+    requires { Counted grid }
+    ensures { result ≡ element_in place (gridded grid payload.now) row column }
+{
+    shape(grid, place, payload)?;
+    if grid.rows <= row || grid.columns <= column {
+        return Err(Fault::Outside.at(place));
+    }
+    let width = elements::width(grid.letter);
+    Ok(elements::element_at(payload, (row * grid.columns + column) * width, grid.letter))
 }

@@ -15,18 +15,11 @@ use klv::KLV;
 use value::{Plan, Shape};
 
 // Whether the value under a header is quaternions.
+#[tactic(auto, unfolding(value::specs::Value::is_quaternions))]
 pub fn is_quaternions(klv: KLV) -> bool
     ensures { result ≡ is_quaternions klv }
 {
-    if klv.data_type == b's' {
-        if klv.key == keys::names::CORI {
-            return true;
-        }
-        if klv.key == keys::names::IORI {
-            return true;
-        }
-    }
-    false
+    klv.data_type == b's' && (klv.key == keys::names::CORI || klv.key == keys::names::IORI)
 }
 
 // An element of the value of a header, a payload and the TYPE text in force.
