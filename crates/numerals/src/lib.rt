@@ -3,8 +3,7 @@
 
 #![tactic(auto)]
 
-ghost use Rattle.std.specs.Prelude.{◌≡◌, true, ◌∷◌, ◌+◌, ◌<◌, ◌≤◌, pos, length, get_or};
-ghost use Rattle.std.specs.Int.Signed.{lt_z, mag};
+ghost use Rattle.std.specs.Prelude.{◌≡◌, ◌∷◌, ◌+◌, ◌<◌, ◌≤◌, length, get_or};
 ghost use Rattle.foundation.specs.Digits.{digits};
 ghost use Rattle.text.specs.Lay.{over, Lays};
 ghost use Rattle.numerals.specs.Numerals.{last_digits, decimal, signed_decimal};

@@ -7,7 +7,7 @@ ghost use Rattle.foundation.specs.Text.{key};
 ghost use Rattle.keys.specs.Tags.{orientation_in_tag, orientation_out_tag};
 ghost use Rattle.klv.specs.Header.{header_at};
 ghost use Rattle.tagged.specs.Tagged.{tagged_of};
-ghost use Rattle.orientation.specs.Matrix.{is_single, serves, single_of, singles_of, first_row, told, by_matrix};
+ghost use Rattle.orientation.specs.Matrix.{is_single, serves, single_of, singles_of, first_row, by_matrix};
 ghost use Rattle.orientation.specs.Texts.{TextEnd, by_orientations, by_texts};
 ghost use Rattle.orientation.specs.Group.{by_pair, orientation_of_group};
 

@@ -2,9 +2,8 @@
 
 #![tactic(auto)]
 
-ghost use Rattle.std.specs.Prelude.{◌≡◌, [], ◌+◌, length, get_or, drop};
-ghost use Rattle.foundation.specs.Pieces.{before, pieces_of};
-ghost use Rattle.pieces.specs.Piece.{up_to};
+ghost use Rattle.std.specs.Prelude.{◌≡◌, [], length, get_or};
+ghost use Rattle.foundation.specs.Pieces.{pieces_of};
 
 // How many pieces a text falls into, each ended by a byte or by the end: the words of a line, where the byte is a space.
 pub fn pieces(s: &[u8], b: u8) -> usize

@@ -1,5 +1,5 @@
 // Filters: each is false only where DEVC begins at none of some places.
-ghost use Rattle.std.specs.Prelude.{◌≡◌, false, ◌+◌, ◌*◌, ◌<◌, ◌≤◌, length};
+ghost use Rattle.std.specs.Prelude.{◌≡◌, false, ◌+◌, ◌*◌, ◌≤◌, length};
 ghost use Rattle.search.specs.Search.{find_from, IsLetter, WordsAgree};
 
 // Two words of two letters of DEVC, of which the one ends where the other begins: where that is, the bits in which they agree, and what those are.

@@ -2,8 +2,6 @@
 
 #![tactic(auto)]
 
-ghost use Rattle.std.specs.Prelude.{◌≡◌};
-ghost use Rattle.foundation.specs.BigEndian.{bytes_of};
 ghost use Rattle.text.specs.Lay.{Lays};
 ghost use Rattle.shown_key.specs.Key.{shown_key};
 

@@ -2,7 +2,7 @@
 
 #![tactic(auto)]
 
-ghost use Rattle.std.specs.Prelude.{◌≡◌, false, length, take};
+ghost use Rattle.std.specs.Prelude.{◌≡◌, false, length};
 ghost use Rattle.reading.specs.Walk.{reading_of, room_of};
 ghost use Rattle.take.specs.Take.{left_out, Fronts, Takes};
 

@@ -5,8 +5,8 @@
 
 #![tactic(auto)]
 
-ghost use Rattle.std.specs.Prelude.{◌≡◌, [], ◌∷◌, ◌+◌, ◌≤◌, leb, length};
-ghost use Rattle.text.specs.Lay.{over, Lays};
+ghost use Rattle.std.specs.Prelude.{◌≡◌, [], ◌∷◌, ◌+◌, leb};
+ghost use Rattle.text.specs.Lay.{Lays};
 
 pub const FULL: usize = usize::MAX;
 

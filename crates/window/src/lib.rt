@@ -4,7 +4,7 @@
 
 ghost use Rattle.std.specs.Prelude.{◌≡◌, ◌+◌, ◌-◌, ◌<◌, min, max, length, if◌then◌else◌, nat_lt};
 ghost use Rattle.search.specs.Search.{find_from};
-ghost use Rattle.window.specs.Steps.{last_bytes, over_held, in_file, read_from, tell_packet, overlapping, read_past, tell_long, seek_end, next_step, Keeps};
+ghost use Rattle.window.specs.Steps.{over_held, in_file, read_from, tell_packet, overlapping, read_past, tell_long, seek_end, next_step, Keeps};
 
 use raw_file::{InWindow, Packet, Packets};
 
