@@ -13,6 +13,8 @@ use contract.Monad.{Fun, fact, fact_i, fact_use}
 use denote.Triple.Clauses.{Ended, Clauses, AtExit}
 use denote.Triple.Entry.{Args, Res}
 use borrow.Fn.Kinds.{ParamKind, ResultKind, Out, Dens, res_t, ended_of}
+use Rattle.foundation.proofs.refusal.Fault.at.Kinds as fault-at-kinds
+use Rattle.foundation.proofs.refusal.Fault.at.Reads as fault-at-reads
 use Rattle.foundation.proofs.big_endian.Kinds as big-endian-kinds
 use Rattle.foundation.proofs.big_endian.Reads as big-endian-reads
 use Rattle.text.proofs.put.Kinds as put-kinds
@@ -201,6 +203,8 @@ use Rattle.payload_values.proofs.shape_of.Kinds as shape-of-kinds
 use Rattle.payload_values.proofs.shape_of.Reads as shape-of-reads
 use Rattle.payload_values.proofs.columns_of.Kinds as columns-of-kinds
 use Rattle.payload_values.proofs.columns_of.Reads as columns-of-reads
+use Rattle.items.proofs.Span.of.Kinds as span-of-kinds
+use Rattle.items.proofs.Span.of.Reads as span-of-reads
 use Rattle.items.proofs.item_at.Kinds as item-at-kinds
 use Rattle.items.proofs.item_at.Reads as item-at-reads
 use Rattle.values.proofs.klv_at.Kinds as klv-at-kinds
@@ -305,6 +309,9 @@ abbrev pub OneResult : (n : ℕ) (parameters : List (ParamKind n)) (result : Res
 OneResult n parameters result promise =
     (κs : Lfts n) (a : Dens κs parameters) (x y : (res_t result κs).Denot) (s t : AtExit (ended_of n parameters result) κs)
     → promise κs a x s → promise κs a y t → x ≡ y
+
+pub fault_at : OneResult 0 fault-at-kinds.ps fault-at-kinds.r fault-at-reads.Learnt
+fault_at κs a x y s t p q = p ∙ sym q
 
 pub big_endian_lem : OneResult 1 big-endian-kinds.ps big-endian-kinds.r big-endian-reads.Learnt
 big_endian_lem κs a x y s t p q = p ∙ sym q
@@ -421,6 +428,10 @@ shape_of κs a x y s t p q = p ∙ sym q
 
 pub columns_of_lem : OneResult 2 columns-of-kinds.ps columns-of-kinds.r columns-of-reads.Learnt
 columns_of_lem κs a x y s t p q = p ∙ sym q
+
+pub span_of : (κs : Lfts 1) (a : Dens κs span-of-kinds.ps) (x y : (res_t span-of-kinds.r κs).Denot) (s t : AtExit (ended_of 1 span-of-kinds.ps span-of-kinds.r) κs)
+    → span-of-reads.Learnt κs a x s → span-of-reads.Learnt κs a y t → x.now ≡ y.now
+span_of κs a x y s t p q = p ∙ sym q
 
 pub item_at : OneResult 1 item-at-kinds.ps item-at-kinds.r item-at-reads.Learnt
 item_at κs a x y s t p q = p.is ∙ sym q.is
