@@ -2,6 +2,7 @@
 use Prim.Native.Nat.{ℕ, suc, ◌+◌, ◌-◌, ◌*◌, ◌^◌, ◌<◌, ◌≤◌}
 use mathlib.Core.Path.{◌≡◌, sym, ap, ◌∙◌}
 use mathlib.Core.Bool.{true, cond}
+use mathlib.Core.Logic.{◌⊎◌, inl, inr}
 use mathlib.Core.List.{List, ◌∷◌}
 use native.Mathlib.Nat.{pow-suc, pow-zero, pow-le-pow_right, mul-one, zero-mul, zero-add, add-zero}
 use native.Mathlib.Numerals.{add-one}
@@ -42,13 +43,18 @@ module _ (text : List ℕ) (i to : ℕ) (some : i < to) (inside : to ≤ length 
       ∙ ap (λ (k : ℕ). digits_after (n * 10 + (c - 48)) (field text k to)) (sym (add-one i))
 
   -- its first byte is below or above the digits
-  pub below : (n : ℕ) → get_or text i 0 < 48 → digits_after n (field text i to) ≡ None
+  below : (n : ℕ) → get_or text i 0 < 48 → digits_after n (field text i to) ≡ None
   unfolding digits_after
   below n h = rw (slice-cons i to text 0 some inside, le-ltb (worth_of (get_or text i 0)) 10 (below_digits (get_or text i 0) h))
 
-  pub above : (n : ℕ) → 48 ≤ get_or text i 0 → 57 < get_or text i 0 → digits_after n (field text i to) ≡ None
+  above : (n : ℕ) → 48 ≤ get_or text i 0 → 57 < get_or text i 0 → digits_after n (field text i to) ≡ None
   unfolding digits_after
   above n low h = rw (slice-cons i to text 0 some inside, le-ltb (worth_of (get_or text i 0)) 10 (above_digits (get_or text i 0) h))
+
+  -- so none is read where it is no digit
+  pub no_digit : (n : ℕ) → (get_or text i 0 < 48) ⊎ (57 < get_or text i 0) → digits_after n (field text i to) ≡ None
+  no_digit n (inl h) = below n h
+  no_digit n (inr h) = above n (omega arith) h
 
 pub no_more : (text : List ℕ) (to n : ℕ) → digits_after n (field text to to) ≡ Some n
 unfolding digits_after

@@ -24,17 +24,12 @@ fn digits(text: &[u8], from: usize, to: usize) -> Option<u64>
     ensures { (result ≡ digits (field text.now from to)) × Below (10 ^ (to - from)) result }
 {
     let mut number: u64 = 0;
-    let mut i = from;
-    while i < to {
+    for i in from..to {
         let b = text[i];
-        if b < b'0' {
+        if !b.is_ascii_digit() {
             return None;
         }
-        if b'9' < b {
-            return None;
-        }
-        number = number * 10 + (b - b'0') as u64;
-        i += 1;
+        number = number * 10 + u64::from(b - b'0');
     }
     Some(number)
 }
