@@ -44,14 +44,17 @@ pub fn put_row(out: &mut [u32], n: usize, row: Row) -> bool
 {
     if n < room(out.len()) {
         let at = n * Row::WIDTH;
-        out[at] = row.place;
-        out[at + 1] = row.group_kind;
-        out[at + 2] = row.group_key;
-        out[at + 3] = row.tag;
-        out[at + 4] = row.key;
-        out[at + 5] = row.shape;
-        out[at + 6] = row.type_place;
-        out[at + 7] = row.depth;
+        let numbers = [
+            row.place,
+            row.group_kind,
+            row.group_key,
+            row.tag,
+            row.key,
+            row.shape,
+            row.type_place,
+            row.depth,
+        ];
+        out[at..at + Row::WIDTH].copy_from_slice(&numbers);
         return true;
     }
     false
