@@ -1,14 +1,16 @@
 -- What a MTRX gives, by the tests of its header: nine numbers are read, any other count is refused, and what is not nested f32 serves for none. Assumes nothing.
-use Prim.Native.Nat.{ℕ, zero, suc, ◌/◌, ◌<◌, ◌≤◌}
+use Prim.Native.Nat.{ℕ, zero, suc, ◌+◌, ◌/◌, ◌<◌, ◌≤◌}
 use Prim.Native.Char.{code}
 use mathlib.Core.Path.{◌≡◌, refl, ap, sym, ◌∙◌}
 use mathlib.Core.Bool.{Bool, true, false, cond, ◌&&◌, ◌||◌}
-use mathlib.Core.List.{List}
+use mathlib.Core.List.{List, [], ◌∷◌, ◌++◌}
+use native.Mathlib.Numerals.{add-one}
 use native.Mathlib.Omega.{arith}
 use borrow.Author.Tests.{eqb-true, ne_eqb, lt-ltb}
 use lib.Dec.{eqb}
 use lib.Ieee.{Float}
-use lib.ListN.{length, length-append}
+use lib.ListN.{length, take, set, length-append}
+use lib.Seq.{take-suc-set}
 use Rattle.std.specs.Prelude.{Option, None, Result, Ok}
 use Rattle.foundation.specs.Refusals.{refuse}
 use Rattle.foundation.specs.declared.refusal.Refusal.{Refusal}
@@ -19,13 +21,19 @@ use Rattle.klv.specs.declared.KLV.{KLV}
 use Rattle.elements.specs.declared.Element.{Element}
 use Rattle.elements.specs.Types.{width_of}
 use Rattle.value.specs.Value.{per_row}
-use Rattle.orientation.specs.Matrix.{is_single, serves, singles_of, told, by_matrix}
+use Rattle.orientation.specs.Matrix.{is_single, serves, single_of, singles_of, told, by_matrix}
 
 -- the first n are n
 pub length_singles : (row : ℕ → Result Element Refusal) (n : ℕ) → length (singles_of row n) ≡ n
 unfolding singles_of
 length_singles row zero = refl
 length_singles row (suc n) = simp (length-append, length_singles row n) (omega arith)
+
+-- ONE MORE, stored behind those so far
+pub one_more : (row : ℕ → Result Element Refusal) (xs : List Float) (n : ℕ) (x : Float) → n < length xs → take n xs ≡ singles_of row n → x ≡ single_of (row n)
+    → take (n + 1) (set xs n x) ≡ singles_of row (n + 1)
+unfolding singles_of
+one_more row xs n x h so_far is = rw add-one (take-suc-set xs n x h ∙ ap (λ (ys : List Float). ys ++ (x ∷ [])) so_far ∙ ap (λ (y : Float). singles_of row n ++ (y ∷ [])) is)
 
 -- f32 numbers have four bytes
 four_bytes : (letter : ℕ) → is_single letter ≡ true → width_of letter ≡ 4

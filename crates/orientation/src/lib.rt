@@ -41,17 +41,11 @@ fn number(s: &[u8], at: usize, column: usize) -> f32
 fn nine(s: &[u8], at: usize) -> [f32; 9]
     ensures { result ≡ singles_of (first_row s.now at) 9 }
 {
-    [
-        number(s, at, 0),
-        number(s, at, 1),
-        number(s, at, 2),
-        number(s, at, 3),
-        number(s, at, 4),
-        number(s, at, 5),
-        number(s, at, 6),
-        number(s, at, 7),
-        number(s, at, 8),
-    ]
+    let mut numbers = [0.0; 9];
+    for column in 0..9 {
+        numbers[column] = number(s, at, column);
+    }
+    numbers
 }
 
 // Whether numbers of a letter are f32.
