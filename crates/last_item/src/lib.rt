@@ -23,6 +23,7 @@ pub fn last_item(s: &[u8], at: usize) -> Result<Option<Last>, Refusal>
 {
     let mut place = at;
     let mut last = None;
+    // no range: a step is the length of the item that is stepped over
     while place < s.len() {
         match Cursor::new(place).parse_header(s) {
             Err(Broken::Short) => return Err(Fault::LeftOver.at(place)),

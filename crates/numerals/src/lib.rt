@@ -87,6 +87,7 @@ fn decimal_places(n: u64) -> usize
 {
     let mut rest = n;
     let mut count: usize = 1;
+    // no range: what is left of the number ends it
     while rest >= 10 {
         rest /= 10;
         count += 1;

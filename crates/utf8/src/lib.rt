@@ -7,7 +7,7 @@ ghost use Rattle.texts.specs.Utf8.{table, begin, next, paid, well_formed};
 ghost use Rattle.texts.specs.Texts.{is_well_formed_text, are_well_formed};
 ghost use Rattle.utf8.specs.Expected.{owed, owed_behind, ascii};
 
-// What the next byte of a text has to be.
+// What the next byte of a text has to be. Three states, of which none is the lack of a byte, so no Option is plainer.
 #[derive(Clone, Copy)]
 enum Expected {
     // the first of a sequence
