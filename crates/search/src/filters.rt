@@ -1,5 +1,5 @@
 // Filters: each is false only where DEVC begins at none of some places.
-ghost use Rattle.std.specs.Prelude.{◌≡◌, false, ◌+◌, ◌*◌, ◌≤◌, length};
+ghost use Rattle.std.specs.Prelude.{ℕ, ◌≡◌, false, ◌+◌, ◌*◌, ◌≤◌, length};
 ghost use Rattle.search.specs.Search.{find_from, IsLetter, WordsAgree};
 
 // Two words of two letters of DEVC, of which the one ends where the other begins: where that is, the bits in which they agree, and what those are.
@@ -74,31 +74,17 @@ fn by_letters(s: &[u8], from: usize, one: Letter, other: Letter) -> bool
     hit
 }
 
-// ---- blocks of 128 places: the first that a filter does not pass, or where fewer places are left
-
-fn words_pass(s: &[u8], from: usize, end: usize, words: Words) -> usize
+// The first block of 128 places that a filter does not pass, or where fewer places are left.
+fn blocks_pass<F: Fn(usize) -> bool>(s: &[u8], from: usize, end: usize, may_begin: F) -> usize
     requires from_le_end { (from ≤ end) × (end + 3 ≤ length s.now) }
-    requires words_agree { WordsAgree words.at words.bits words.are }
+    requires callable { (k : ℕ) → k + 131 ≤ length s.now → F.pre may_begin k }
+    requires filter { (k : ℕ) → k + 131 ≤ length s.now → F.post may_begin k false → find_from s.now k ≡ find_from s.now (k + 128) }
     ensures { (from ≤ result) × (result ≤ end) × (find_from s.now from ≡ find_from s.now result) }
 {
+    // `k` is the answer, so a range would be no plainer
     let mut k = from;
     while 128 <= end - k {
-        if by_words(s, k, words, 64) {
-            return k;
-        }
-        k += 128;
-    }
-    k
-}
-
-fn letters_pass(s: &[u8], from: usize, end: usize, one: Letter, other: Letter) -> usize
-    requires from_le_end { (from ≤ end) × (end + 3 ≤ length s.now) }
-    requires letter { IsLetter one.at one.is × IsLetter other.at other.is }
-    ensures { (from ≤ result) × (result ≤ end) × (find_from s.now from ≡ find_from s.now result) }
-{
-    let mut k = from;
-    while 128 <= end - k {
-        if by_letters(s, k, one, other) {
+        if may_begin(k) {
             return k;
         }
         k += 128;
@@ -124,12 +110,12 @@ pub(crate) fn pass(s: &[u8], from: usize, end: usize, compares: Compares) -> usi
     ensures { (from ≤ result) × (result ≤ end) × (find_from s.now from ≡ find_from s.now result) }
 {
     match compares {
-        Compares::FirstWords => words_pass(s, from, end, FIRST),
-        Compares::LastWords => words_pass(s, from, end, LAST),
-        Compares::EAndV => letters_pass(s, from, end, E, V),
-        Compares::DAndC => letters_pass(s, from, end, D, C),
-        Compares::DAndE => letters_pass(s, from, end, D, E),
-        Compares::VAndC => letters_pass(s, from, end, V, C),
+        Compares::FirstWords => blocks_pass(s, from, end, |k| by_words(s, k, FIRST, 64)),
+        Compares::LastWords => blocks_pass(s, from, end, |k| by_words(s, k, LAST, 64)),
+        Compares::EAndV => blocks_pass(s, from, end, |k| by_letters(s, k, E, V)),
+        Compares::DAndC => blocks_pass(s, from, end, |k| by_letters(s, k, D, C)),
+        Compares::DAndE => blocks_pass(s, from, end, |k| by_letters(s, k, D, E)),
+        Compares::VAndC => blocks_pass(s, from, end, |k| by_letters(s, k, V, C)),
         Compares::Nothing => from,
     }
 }

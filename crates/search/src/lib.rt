@@ -26,10 +26,7 @@ pub fn find_devc(file: &[u8], from: usize) -> Option<usize>
 pub fn devc_or_end(file: &[u8], from: usize) -> usize
     ensures { result ≡ devc_or_end file.now from }
 {
-    match seek(file, from) {
-        Some(at) => at,
-        None => file.len(),
-    }
+    seek(file, from).unwrap_or(file.len())
 }
 
 // The first DEVC from a place on: near, and then behind.
@@ -45,10 +42,7 @@ fn seek(file: &[u8], from: usize) -> Option<usize>
         return None;
     }
     let near = so_far(from, NEAR, end);
-    match by_place(file, from, near) {
-        Some(at) => Some(at),
-        None => behind(file, near, end),
-    }
+    by_place(file, from, near).or_else(|| behind(file, near, end))
 }
 
 // How many places are searched one by one: from the end of a DEVC those up to the one behind a packet without bytes. An even number, so that the words
@@ -77,10 +71,7 @@ fn behind(s: &[u8], from: usize, end: usize) -> Option<usize>
     ensures { find_from s.now from ≡ or_else result (find_from s.now end) }
 {
     let short = so_far(from, SHORT, end);
-    match by_small_blocks(s, from, short) {
-        Some(at) => Some(at),
-        None => by_blocks(s, short, end),
-    }
+    by_small_blocks(s, from, short).or_else(|| by_blocks(s, short, end))
 }
 
 // Whether DEVC begins at a place: one comparison of four bytes.
@@ -109,6 +100,7 @@ fn by_small_blocks(s: &[u8], from: usize, end: usize) -> Option<usize>
     requires { (from ≤ end) × (end + 3 ≤ length s.now) }
     ensures { find_from s.now from ≡ or_else result (find_from s.now end) }
 {
+    // `k` is used behind the loop, so a range would be no plainer
     let mut k = from;
     while 32 <= end - k {
         if filters::by_words(s, k, filters::FIRST, 16) {
@@ -141,6 +133,7 @@ fn by_blocks(s: &[u8], from: usize, end: usize) -> Option<usize>
     requires { (from ≤ end) × (end + 3 ≤ length s.now) }
     ensures { find_from s.now from ≡ or_else result (find_from s.now end) }
 {
+    // steps of no one length, so there is no range
     let mut k = from;
     let mut filter = Filter {
         compares: Compares::FirstWords,
