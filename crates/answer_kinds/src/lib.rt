@@ -1,4 +1,5 @@
 // The kinds of an answer that is told to a caller in another language: the number that each answer begins with.
+// Numbers and no enum: the C interface.
 
 #![tactic(auto)]
 

@@ -1,36 +1,18 @@
 -- What a whole number, an item and a part are told as to a caller in another language: a record of numbers, of which those that the answer does not have
 -- are 0 (document 01, Refusal numbers: "A refusal returns its number, a place and zeros"). Assumes nothing: these are definitions.
-use Rattle.std.specs.Prelude.{ℕ}
-use Rattle.foundation.specs.Refusals as refusals
+use Rattle.std.specs.Prelude.{ℕ, Option, Some, None, Result, Ok, Err}
+use Rattle.foundation.specs.Refusals.{number_of}
+use Rattle.foundation.specs.declared.refusal.Fault.{Fault}
+use Rattle.foundation.specs.declared.refusal.Fault.TheVariants as fault
+use Rattle.foundation.specs.declared.refusal.Refusal.{Refusal}
 use Rattle.klv.specs.declared.KLV.{KLV}
-use Rattle.klv.specs.declared.Header.{Header}
-use Rattle.klv.specs.declared.Header.TheVariants as header
-use Rattle.custom_type.specs.declared.Expanded.{Expanded}
-use Rattle.custom_type.specs.declared.Expanded.TheVariants as expanded
-use Rattle.custom_type.specs.Resolved as Resolved
-use Rattle.dates.specs.declared.Date.{Date}
-use Rattle.dates.specs.declared.Date.TheVariants as date
-use Rattle.dates.specs.Date as Date
-use Rattle.last_item.specs.declared.LastItem.{LastItem}
-use Rattle.last_item.specs.declared.LastItem.TheVariants as last
-use Rattle.line.specs.declared.Number as line
-use Rattle.line.specs.declared.Number.TheVariants as number_in
-use Rattle.line.specs.declared.Decoded.{Decoded}
-use Rattle.line.specs.declared.Decoded.TheVariants as decoded
-use Rattle.search.specs.declared.Found as devc
-use Rattle.search.specs.declared.Found.TheVariants as devc-found
-use Rattle.rows.specs.declared.Found.{Found}
-use Rattle.rows.specs.declared.Found.TheVariants as found
-use Rattle.stamps.specs.declared.Stamp.{Stamp}
-use Rattle.stamps.specs.declared.Stamp.TheVariants as stamp
+use Rattle.klv.specs.declared.Broken.{Broken}
+use Rattle.klv.specs.declared.Broken.TheVariants as broken
+use Rattle.last_item.specs.declared.Last.{Last}
+use Rattle.line.specs.declared.HexError.{HexError}
+use Rattle.line.specs.declared.HexError.TheVariants as hex
 use Rattle.tagged.specs.declared.Tagged.{Tagged}
-use Rattle.tagged.specs.declared.Tagged.TheVariants as tagged
-use Rattle.values.specs.declared.Headed.{Headed}
-use Rattle.values.specs.declared.Headed.TheVariants as headed
 use Rattle.parts.specs.declared.Part.{Part}
-use Rattle.parts.specs.declared.Part.TheVariants as part_of
-use Rattle.value.specs.declared.Count.{Count}
-use Rattle.value.specs.declared.Count.TheVariants as count
 use Rattle.answer_kinds.specs.Kinds.{refused, is, nothing, more}
 use Rattle.answers.specs.declared.WholeAnswer.{WholeAnswer}
 use Rattle.answers.specs.declared.ItemAnswer.{ItemAnswer}
@@ -42,33 +24,33 @@ use Rattle.answers.specs.declared.PartAnswer.{PartAnswer}
 abbrev pub whole : ℕ → ℕ → ℕ → ℕ → WholeAnswer
 whole kind number place value = record { kind = kind; number = number; place = place; value = value }
 
+-- a whole number, none, or a refusal
+abbrev pub whole_told : Result (Option ℕ) Refusal → WholeAnswer
+whole_told (Ok (Some n)) = whole is 0 0 n
+whole_told (Ok None) = whole nothing 0 0 0
+whole_told (Err r) = whole refused r.number r.place 0
+
 -- refusal 8: an expanded type over 256 characters
-abbrev pub of_expanded : Expanded → WholeAnswer
-of_expanded (expanded.Characters n) = whole is 0 0 n
-of_expanded expanded.TooLong = whole refused (Resolved.refusal expanded.TooLong) 0 0
+abbrev pub of_expanded : Result ℕ Fault → WholeAnswer
+of_expanded (Ok n) = whole is 0 0 n
+of_expanded (Err f) = whole refused (number_of f) 0 0
 
 -- refusals 6 and 7: too few bytes for a date, and one that is not readable
-abbrev pub of_date : Date → WholeAnswer
-of_date (date.Milliseconds n) = whole is 0 0 n
-of_date date.TooFew = whole refused (Date.refusal date.TooFew) 0 0
-of_date date.Unreadable = whole refused (Date.refusal date.Unreadable) 0 0
+abbrev pub of_date : Result ℕ Fault → WholeAnswer
+of_date = of_expanded
 
 -- the columns of a row, or how many elements were laid
-abbrev pub of_count : Count → WholeAnswer
-of_count (count.Are n) = whole is 0 0 n
-of_count (count.Refused number place) = whole refused number place 0
+abbrev pub of_count : Result ℕ Refusal → WholeAnswer
+of_count (Ok n) = whole is 0 0 n
+of_count (Err r) = whole refused r.number r.place 0
 
 -- the row that a lookup finds
-abbrev pub of_found : Found → WholeAnswer
-of_found (found.At n) = whole is 0 0 n
-of_found found.Nothing = whole nothing 0 0 0
-of_found (found.Refused number place) = whole refused number place 0
+abbrev pub of_found : Result (Option ℕ) Refusal → WholeAnswer
+of_found = whole_told
 
 -- the stamp of a group
-abbrev pub of_stamp : Stamp → WholeAnswer
-of_stamp (stamp.Is n) = whole is 0 0 n
-of_stamp stamp.Nothing = whole nothing 0 0 0
-of_stamp (stamp.Refused number place) = whole refused number place 0
+abbrev pub of_stamp : Result (Option ℕ) Refusal → WholeAnswer
+of_stamp = whole_told
 
 -- ---- an item
 
@@ -80,28 +62,36 @@ no_klv = record { key = 0; data_type = 0; size = 0; repeat = 0 }
 abbrev pub item : ℕ → ℕ → ℕ → KLV → ItemAnswer
 item kind number place klv = record { kind = kind; number = number; place = place; klv = klv }
 
--- of the item at a place: refusal 12 for fewer than 8 bytes, 2 for a payload that runs past the end
-abbrev pub of_header : ℕ → Header → ItemAnswer
-of_header at (header.Item h) = item is 0 at h
-of_header at header.Short = item refused refusals.no_item at no_klv
-of_header at header.Past = item refused refusals.past_end at no_klv
+-- an item at a place, none, or a refusal
+abbrev pub item_told : Result (Option Last) Refusal → ItemAnswer
+item_told (Ok (Some found)) = item is 0 found.place found.klv
+item_told (Ok None) = item nothing 0 0 no_klv
+item_told (Err r) = item refused r.number r.place no_klv
+
+-- refusal 12 for fewer than 8 bytes, 2 for a payload that runs past the end
+abbrev pub fault_of : Broken → Fault
+fault_of broken.Short = fault.NoItem
+fault_of broken.Past = fault.PastEnd
+
+-- of the item at a place
+abbrev pub of_header : ℕ → Result KLV Broken → ItemAnswer
+of_header at (Ok h) = item is 0 at h
+of_header at (Err b) = item refused (number_of (fault_of b)) at no_klv
 
 -- the last item of a level
-abbrev pub of_last_item : LastItem → ItemAnswer
-of_last_item (last.Last place h) = item is 0 place h
-of_last_item last.Nothing = item nothing 0 0 no_klv
-of_last_item (last.Stopped number place) = item refused number place no_klv
+abbrev pub of_last_item : Result (Option Last) Refusal → ItemAnswer
+of_last_item = item_told
 
 -- the header of an item that is asked for by its place
-abbrev pub of_headed : ℕ → Headed → ItemAnswer
-of_headed at (headed.Is h) = item is 0 at h
-of_headed at (headed.Refused number place) = item refused number place no_klv
+abbrev pub of_headed : ℕ → Result KLV Refusal → ItemAnswer
+of_headed at (Ok h) = item is 0 at h
+of_headed at (Err r) = item refused r.number r.place no_klv
 
 -- the item of a group and a tag
-abbrev pub of_tagged : Tagged → ItemAnswer
-of_tagged (tagged.Is h place) = item is 0 place h
-of_tagged tagged.Nothing = item nothing 0 0 no_klv
-of_tagged (tagged.Refused number place) = item refused number place no_klv
+abbrev pub of_tagged : Result (Option Tagged) Refusal → ItemAnswer
+of_tagged (Ok (Some found)) = item is 0 found.place found.klv
+of_tagged (Ok None) = item nothing 0 0 no_klv
+of_tagged (Err r) = item refused r.number r.place no_klv
 
 -- ---- a part of what was lent
 
@@ -110,26 +100,25 @@ abbrev pub part : ℕ → ℕ → ℕ → ℕ → ℕ → PartAnswer
 part kind number place start n = record { kind = kind; number = number; place = place; start = start; length = n }
 
 -- the bytes of an item, or a text of it
-abbrev pub of_part : Part → PartAnswer
-of_part (part_of.At start n) = part is 0 0 start n
-of_part (part_of.Refused number place) = part refused number place 0 0
+abbrev pub of_part : Result Part Refusal → PartAnswer
+of_part (Ok p) = part is 0 0 p.start p.length
+of_part (Err r) = part refused r.number r.place 0 0
 
 -- ---- a raw file
 
 -- the place of a DEVC
-abbrev pub of_devc : devc.Found → WholeAnswer
-of_devc (devc-found.At n) = whole is 0 0 n
-of_devc devc-found.Nothing = whole nothing 0 0 0
+abbrev pub of_devc : Option ℕ → WholeAnswer
+of_devc (Some n) = whole is 0 0 n
+of_devc None = whole nothing 0 0 0
 
 -- ---- what is read out of a line
 
 -- the number that a word is, or none
-abbrev pub of_number : line.Number → WholeAnswer
-of_number (number_in.Is n) = whole is 0 0 n
-of_number number_in.NotOne = whole nothing 0 0 0
+abbrev pub of_number : Option ℕ → WholeAnswer
+of_number = of_devc
 
 -- how many bytes hex digits tell; `more` where they do not fit
-abbrev pub of_decoded : Decoded → WholeAnswer
-of_decoded (decoded.Bytes n) = whole is 0 0 n
-of_decoded decoded.NoRoom = whole more 0 0 0
-of_decoded decoded.NotHex = whole nothing 0 0 0
+abbrev pub of_decoded : Result ℕ HexError → WholeAnswer
+of_decoded (Ok n) = whole is 0 0 n
+of_decoded (Err hex.NoRoom) = whole more 0 0 0
+of_decoded (Err hex.NotHex) = whole nothing 0 0 0

@@ -1,5 +1,6 @@
 // Answers as plain records of numbers, for callers in other languages: the kind of answer, a refusal's number and place, and the values.
 // What an answer does not have is 0. Here whole numbers, items and parts.
+// Each record has a kind, a number and a place of its own, and kinds are numbers: the C interface.
 
 #![tactic(auto)]
 
@@ -7,15 +8,12 @@ ghost use Rattle.std.specs.Prelude.{◌≡◌};
 ghost use Rattle.answers.specs.Answers as tells;
 
 use answer_kinds::{IS, MORE, NOTHING, REFUSED};
-use custom_type::Expanded;
-use dates::Date;
-use klv::{Header, KLV};
-use last_item::LastItem;
+use foundation::refusal::{Fault, Refusal};
+use klv::{Broken, KLV};
+use last_item::Last;
+use line::HexError;
 use parts::Part;
-use stamps::Stamp;
 use tagged::Tagged;
-use value::Count;
-use values::Headed;
 
 // A whole number.
 #[repr(C)]
@@ -27,9 +25,15 @@ pub struct WholeAnswer {
     pub value: u64,
 }
 
-fn whole(kind: u32, number: u32, place: usize, value: u64) -> WholeAnswer
-    ensures { result ≡ tells.whole kind number place value }
+// A whole number, or that there is none, or that it is refused.
+fn whole(x: Result<Option<u64>, Refusal>) -> WholeAnswer
+    ensures { result ≡ tells.whole_told x }
 {
+    let (kind, number, place, value) = match x {
+        Ok(Some(n)) => (IS, 0, 0, n),
+        Ok(None) => (NOTHING, 0, 0, 0),
+        Err(refusal) => (REFUSED, refusal.number, refusal.place, 0),
+    };
     WholeAnswer {
         kind,
         number,
@@ -38,84 +42,68 @@ fn whole(kind: u32, number: u32, place: usize, value: u64) -> WholeAnswer
     }
 }
 
-pub fn of_expanded(x: Expanded) -> WholeAnswer
+// More room is wanted.
+const NO_ROOM: WholeAnswer = WholeAnswer {
+    kind: MORE,
+    number: 0,
+    place: 0,
+    value: 0,
+};
+
+pub fn of_expanded(x: Result<usize, Fault>) -> WholeAnswer
     ensures { result ≡ tells.of_expanded x }
 {
-    match x {
-        Expanded::Characters(n) => whole(IS, 0, 0, n as u64),
-        Expanded::TooLong => whole(REFUSED, 8, 0, 0),
-    }
+    whole(x.map(|n| Some(n as u64)).map_err(|fault| fault.at(0)))
 }
 
-pub fn of_date(x: Date) -> WholeAnswer
+pub fn of_date(x: Result<u64, Fault>) -> WholeAnswer
     ensures { result ≡ tells.of_date x }
 {
-    match x {
-        Date::Milliseconds(n) => whole(IS, 0, 0, n),
-        Date::TooFew => whole(REFUSED, 6, 0, 0),
-        Date::Unreadable => whole(REFUSED, 7, 0, 0),
-    }
+    whole(x.map(Some).map_err(|fault| fault.at(0)))
 }
 
 // How many columns a row has, or how many elements were laid.
-pub fn of_count(x: Count) -> WholeAnswer
+pub fn of_count(x: Result<usize, Refusal>) -> WholeAnswer
     ensures { result ≡ tells.of_count x }
 {
-    match x {
-        Count::Are(n) => whole(IS, 0, 0, n as u64),
-        Count::Refused { number, place } => whole(REFUSED, number, place, 0),
-    }
+    whole(x.map(|n| Some(n as u64)))
 }
 
 // The index of a row.
-pub fn of_found(x: rows::Found) -> WholeAnswer
+pub fn of_found(x: Result<Option<usize>, Refusal>) -> WholeAnswer
     ensures { result ≡ tells.of_found x }
 {
-    match x {
-        rows::Found::At(n) => whole(IS, 0, 0, n as u64),
-        rows::Found::Nothing => whole(NOTHING, 0, 0, 0),
-        rows::Found::Refused { number, place } => whole(REFUSED, number, place, 0),
-    }
+    whole(x.map(|row| row.map(|n| n as u64)))
 }
 
-pub fn of_stamp(x: Stamp) -> WholeAnswer
+pub fn of_stamp(x: Result<Option<u64>, Refusal>) -> WholeAnswer
     ensures { result ≡ tells.of_stamp x }
 {
-    match x {
-        Stamp::Is(n) => whole(IS, 0, 0, n),
-        Stamp::Nothing => whole(NOTHING, 0, 0, 0),
-        Stamp::Refused { number, place } => whole(REFUSED, number, place, 0),
-    }
+    whole(x)
 }
 
 // The place of a DEVC in a file.
-pub fn of_devc(x: search::Found) -> WholeAnswer
+pub fn of_devc(x: Option<usize>) -> WholeAnswer
     ensures { result ≡ tells.of_devc x }
 {
-    match x {
-        search::Found::At(n) => whole(IS, 0, 0, n as u64),
-        search::Found::Nothing => whole(NOTHING, 0, 0, 0),
-    }
+    whole(Ok(x.map(|n| n as u64)))
 }
 
 // The number in a text.
-pub fn of_number(x: line::Number) -> WholeAnswer
+pub fn of_number(x: Option<u64>) -> WholeAnswer
     ensures { result ≡ tells.of_number x }
 {
-    match x {
-        line::Number::Is(n) => whole(IS, 0, 0, n),
-        line::Number::NotOne => whole(NOTHING, 0, 0, 0),
-    }
+    whole(Ok(x))
 }
 
 // How many bytes a text in hex has: none where it is not hex, and more room is wanted where they do not fit.
-pub fn of_decoded(x: line::Decoded) -> WholeAnswer
+pub fn of_decoded(x: Result<usize, HexError>) -> WholeAnswer
     ensures { result ≡ tells.of_decoded x }
 {
     match x {
-        line::Decoded::Bytes(n) => whole(IS, 0, 0, n as u64),
-        line::Decoded::NoRoom => whole(MORE, 0, 0, 0),
-        line::Decoded::NotHex => whole(NOTHING, 0, 0, 0),
+        Ok(n) => whole(Ok(Some(n as u64))),
+        Err(HexError::NoRoom) => NO_ROOM,
+        Err(HexError::NotHex) => whole(Ok(None)),
     }
 }
 
@@ -129,17 +117,6 @@ pub struct ItemAnswer {
     pub klv: KLV,
 }
 
-fn item(kind: u32, number: u32, place: usize, klv: KLV) -> ItemAnswer
-    ensures { result ≡ tells.item kind number place klv }
-{
-    ItemAnswer {
-        kind,
-        number,
-        place,
-        klv,
-    }
-}
-
 // No header.
 const NO_KLV: KLV = KLV {
     key: 0,
@@ -148,45 +125,60 @@ const NO_KLV: KLV = KLV {
     repeat: 0,
 };
 
+// An item at a place, or that there is none, or that it is refused.
+fn item(x: Result<Option<Last>, Refusal>) -> ItemAnswer
+    ensures { result ≡ tells.item_told x }
+{
+    let (kind, number, place, klv) = match x {
+        Ok(Some(found)) => (IS, 0, found.place, found.klv),
+        Ok(None) => (NOTHING, 0, 0, NO_KLV),
+        Err(refusal) => (REFUSED, refusal.number, refusal.place, NO_KLV),
+    };
+    ItemAnswer {
+        kind,
+        number,
+        place,
+        klv,
+    }
+}
+
+// Why there is no item, as it is told.
+fn fault_of(broken: Broken) -> Fault
+    ensures { result ≡ tells.fault_of broken }
+{
+    match broken {
+        Broken::Short => Fault::NoItem,
+        Broken::Past => Fault::PastEnd,
+    }
+}
+
 // Of the item at a place.
-pub fn of_header(x: Header, at: usize) -> ItemAnswer
+pub fn of_header(x: Result<KLV, Broken>, at: usize) -> ItemAnswer
     ensures { result ≡ tells.of_header at x }
 {
-    match x {
-        Header::Item(klv) => item(IS, 0, at, klv),
-        Header::Short => item(REFUSED, 12, at, NO_KLV),
-        Header::Past => item(REFUSED, 2, at, NO_KLV),
-    }
+    of_headed(x.map_err(|broken| fault_of(broken).at(at)), at)
 }
 
-pub fn of_last_item(x: LastItem) -> ItemAnswer
+pub fn of_last_item(x: Result<Option<Last>, Refusal>) -> ItemAnswer
     ensures { result ≡ tells.of_last_item x }
 {
-    match x {
-        LastItem::Last { place, klv } => item(IS, 0, place, klv),
-        LastItem::Nothing => item(NOTHING, 0, 0, NO_KLV),
-        LastItem::Stopped { number, place } => item(REFUSED, number, place, NO_KLV),
-    }
+    item(x)
 }
 
-pub fn of_tagged(x: Tagged) -> ItemAnswer
+pub fn of_tagged(x: Result<Option<Tagged>, Refusal>) -> ItemAnswer
     ensures { result ≡ tells.of_tagged x }
 {
-    match x {
-        Tagged::Is { klv, place } => item(IS, 0, place as usize, klv),
-        Tagged::Nothing => item(NOTHING, 0, 0, NO_KLV),
-        Tagged::Refused { number, place } => item(REFUSED, number, place, NO_KLV),
-    }
+    item(x.map(|tagged| tagged.map(|tagged| Last {
+        place: tagged.place as usize,
+        klv: tagged.klv,
+    })))
 }
 
 // The same of an item that has a value.
-pub fn of_headed(x: Headed, at: usize) -> ItemAnswer
+pub fn of_headed(x: Result<KLV, Refusal>, at: usize) -> ItemAnswer
     ensures { result ≡ tells.of_headed at x }
 {
-    match x {
-        Headed::Is(klv) => item(IS, 0, at, klv),
-        Headed::Refused { number, place } => item(REFUSED, number, place, NO_KLV),
-    }
+    item(x.map(|klv| Some(Last { place: at, klv })))
 }
 
 // A part of what was lent: where it starts, and how many bytes it has.
@@ -200,23 +192,18 @@ pub struct PartAnswer {
     pub length: usize,
 }
 
-fn part(kind: u32, number: u32, place: usize, start: usize, length: usize) -> PartAnswer
-    ensures { result ≡ tells.part kind number place start length }
+pub fn of_part(x: Result<Part, Refusal>) -> PartAnswer
+    ensures { result ≡ tells.of_part x }
 {
+    let (kind, number, place, start, length) = match x {
+        Ok(part) => (IS, 0, 0, part.start, part.length),
+        Err(refusal) => (REFUSED, refusal.number, refusal.place, 0, 0),
+    };
     PartAnswer {
         kind,
         number,
         place,
         start,
         length,
-    }
-}
-
-pub fn of_part(x: Part) -> PartAnswer
-    ensures { result ≡ tells.of_part x }
-{
-    match x {
-        Part::At { start, length } => part(IS, 0, 0, start, length),
-        Part::Refused { number, place } => part(REFUSED, number, place, 0, 0),
     }
 }

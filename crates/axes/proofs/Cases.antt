@@ -8,8 +8,8 @@ use lib.IntN.{negsuc}
 use lib.Ieee.{Float, nan, inf, fin, lt}
 use Rattle.foundation.specs.Text.{characters}
 use Rattle.axes.specs.declared.Axes.{Axes}
-use Rattle.axes.specs.declared.Orientations.TheVariants as orientations
-use Rattle.axes.specs.declared.Orientation.TheVariants.{Is, Refused}
+use Rattle.foundation.specs.Refusals.{refuse}
+use Rattle.std.specs.Prelude.{Ok, Some}
 use Rattle.axes.specs.Matrix.{one, minus_one, nought, entry_of, three_ascii, orientations_of}
 use Rattle.axes.specs.Back.{half, minus_half, beyond, lettered, orientation_of, orientation_in}
 use Rattle.axes.specs.ReadBack.{standing_in}
@@ -32,10 +32,10 @@ rule_10 = refl
 
 -- ---- texts that name no axes
 
-pub refused_texts : (orientations_of (characters "XY") (characters "XYZ") ≡ orientations.Refused 9 0)
-    × (orientations_of (characters "XYZ") (characters "XYZX") ≡ orientations.Refused 9 0)
-    × (orientations_of (characters "XYZ") (88 ∷ 89 ∷ 128 ∷ []) ≡ orientations.Refused 9 0)
-    × (orientations_of (127 ∷ 0 ∷ 32 ∷ []) (characters "@`1") ≡ orientations.Are (axes 127 0 32) (axes 64 96 49))
+pub refused_texts : (orientations_of (characters "XY") (characters "XYZ") ≡ refuse 9 0)
+    × (orientations_of (characters "XYZ") (characters "XYZX") ≡ refuse 9 0)
+    × (orientations_of (characters "XYZ") (88 ∷ 89 ∷ 128 ∷ []) ≡ refuse 9 0)
+    × (orientations_of (127 ∷ 0 ∷ 32 ∷ []) (characters "@`1") ≡ Ok (record { orin = axes 127 0 32; orio = axes 64 96 49 }))
 unfolding orientations_of three_ascii
 refused_texts = (refl, refl, refl, refl)
 
@@ -52,15 +52,15 @@ abbrev more : Float
 more = fin false 4194305 (negsuc 22)
 
 -- 0.5 in size is not beyond it, and a NaN is not; an infinity is
-pub limits : (beyond half 1 2 3 ≡ 3) × (beyond minus_half 1 2 3 ≡ 3) × (beyond nan 1 2 3 ≡ 3) × (beyond more 1 2 3 ≡ 1) × (beyond (inf false) 1 2 3 ≡ 1)
-    × (beyond (inf true) 1 2 3 ≡ 2)
+pub limits : (beyond half 1 2 (Some 3) ≡ Some 3) × (beyond minus_half 1 2 (Some 3) ≡ Some 3) × (beyond nan 1 2 (Some 3) ≡ Some 3) × (beyond more 1 2 (Some 3) ≡ Some 1)
+    × (beyond (inf false) 1 2 (Some 3) ≡ Some 1) × (beyond (inf true) 1 2 (Some 3) ≡ Some 2)
 unfolding beyond lt
 limits = (refl, refl, refl, refl, refl, refl)
 
 -- the first such column names the axis, and a row with none is refused, and so are eight numbers and ten
-pub refused_matrices : (orientation_of ((nan ∷ minus_one ∷ one ∷ []) ∷ (one ∷ one ∷ one ∷ []) ∷ (half ∷ half ∷ minus_one ∷ []) ∷ []) ≡ Is (axes (code "y") (code "X") (code "z")))
-    × (orientation_of ((one ∷ one ∷ one ∷ []) ∷ (half ∷ nan ∷ minus_half ∷ []) ∷ (one ∷ one ∷ one ∷ []) ∷ []) ≡ Refused 10 0)
-    × (orientation_in (one ∷ one ∷ one ∷ one ∷ one ∷ one ∷ one ∷ one ∷ []) ≡ Refused 10 0)
-    × (orientation_in (one ∷ one ∷ one ∷ one ∷ one ∷ one ∷ one ∷ one ∷ one ∷ one ∷ []) ≡ Refused 10 0)
+pub refused_matrices : (orientation_of ((nan ∷ minus_one ∷ one ∷ []) ∷ (one ∷ one ∷ one ∷ []) ∷ (half ∷ half ∷ minus_one ∷ []) ∷ []) ≡ Ok (axes (code "y") (code "X") (code "z")))
+    × (orientation_of ((one ∷ one ∷ one ∷ []) ∷ (half ∷ nan ∷ minus_half ∷ []) ∷ (one ∷ one ∷ one ∷ []) ∷ []) ≡ refuse 10 0)
+    × (orientation_in (one ∷ one ∷ one ∷ one ∷ one ∷ one ∷ one ∷ one ∷ []) ≡ refuse 10 0)
+    × (orientation_in (one ∷ one ∷ one ∷ one ∷ one ∷ one ∷ one ∷ one ∷ one ∷ one ∷ []) ≡ refuse 10 0)
 unfolding orientation_in beyond lettered lt
 refused_matrices = (refl, refl, refl, refl)

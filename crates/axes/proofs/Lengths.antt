@@ -6,8 +6,7 @@ use mathlib.Core.List.{List}
 use lib.Ieee.{Float}
 use lib.ListN.{length}
 use borrow.Author.Tests.{eqb-true, ne_eqb}
-use Rattle.axes.specs.declared.Orientations.TheVariants as orientations
-use Rattle.axes.specs.declared.Orientation.TheVariants as orientation
+use Rattle.foundation.specs.Refusals.{refuse}
 use Rattle.axes.specs.Matrix.{three_ascii, orientations_of}
 use Rattle.axes.specs.Back.{orientation_in}
 
@@ -29,15 +28,15 @@ unfolding three_ascii
 not_three text n = simp (ne_eqb (length text) 3 n)
 
 -- REFUSED: texts of which one is not three long
-pub orin_not_three : (orin orio : List ℕ) → (length orin ≡ 3 → ⊥) → orientations_of orin orio ≡ orientations.Refused 9 0
+pub orin_not_three : (orin orio : List ℕ) → (length orin ≡ 3 → ⊥) → orientations_of orin orio ≡ refuse 9 0
 unfolding orientations_of
 orin_not_three orin orio n = simp (not_three orin n)
 
-pub orio_not_three : (orin orio : List ℕ) → (length orio ≡ 3 → ⊥) → orientations_of orin orio ≡ orientations.Refused 9 0
+pub orio_not_three : (orin orio : List ℕ) → (length orio ≡ 3 → ⊥) → orientations_of orin orio ≡ refuse 9 0
 unfolding orientations_of
 orio_not_three orin orio n = simp (not_three orio n, neither_holds)
 
 -- REFUSED: numbers that are not nine
-pub not_nine : (m : List Float) → (length m ≡ 9 → ⊥) → orientation_in m ≡ orientation.Refused 10 0
+pub not_nine : (m : List Float) → (length m ≡ 9 → ⊥) → orientation_in m ≡ refuse 10 0
 unfolding orientation_in
 not_nine m n = simp (ne_eqb (length m) 9 n)

@@ -1,12 +1,12 @@
 -- The matrix of two texts of axes. Document 01, Axes and durations: "The matrix is three rows of three numbers: a row per ORIO letter, a column per
 -- ORIN letter; 1 for the same character, -1 for the same letter in the other case, else 0." Assumes nothing: these are definitions.
-use Rattle.std.specs.Prelude.{ℕ, ◌+◌, Bool, true, false, cond, ◌&&◌, List, [], ◌∷◌, eqb, leb, ltb, pos, Float, length, get_or}
+use Rattle.std.specs.Prelude.{ℕ, ◌+◌, Bool, true, false, cond, ◌&&◌, List, [], ◌∷◌, Result, Ok, eqb, leb, ltb, pos, Float, length, get_or}
 use Prim.Native.Char.{code}
 use Rattle.std.specs.Float.{fin}
-use Rattle.foundation.specs.Refusals as refusals
+use Rattle.foundation.specs.Refusals.{no_axes, refuse}
+use Rattle.foundation.specs.declared.refusal.Refusal.{Refusal}
 use Rattle.axes.specs.declared.Axes.{Axes}
 use Rattle.axes.specs.declared.Orientations.{Orientations}
-use Rattle.axes.specs.declared.Orientations.TheVariants.{Are, Refused}
 
 -- ---- the texts
 
@@ -23,8 +23,8 @@ abbrev pub axes_of : List ℕ → Axes
 axes_of text = record { first = get_or text 0 0; second = get_or text 1 0; third = get_or text 2 0 }
 
 -- THE TEXTS of ORIN and ORIO: refusal 9 at place 0 where they are not three ASCII characters each
-unfoldable pub orientations_of : List ℕ → List ℕ → Orientations
-orientations_of orin orio = cond (three_ascii orin && three_ascii orio) (Are (axes_of orin) (axes_of orio)) (Refused refusals.no_axes 0)
+unfoldable pub orientations_of : List ℕ → List ℕ → Result Orientations Refusal
+orientations_of orin orio = cond (three_ascii orin && three_ascii orio) (Ok (record { orin = axes_of orin; orio = axes_of orio })) (refuse no_axes 0)
 
 -- ---- the matrix
 

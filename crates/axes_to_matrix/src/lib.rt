@@ -3,30 +3,16 @@
 #![tactic(auto)]
 
 ghost use Rattle.std.specs.Prelude.{◌≡◌, length};
-ghost use Rattle.axes.specs.Matrix.{three_ascii, axes_of, orientations_of, small, entry_of, row_of, matrix_of};
+ghost use Rattle.axes.specs.Matrix.{three_ascii, axes_of, orientations_of, entry_of, row_of, matrix_of};
 
 use axes::{Axes, Orientations};
-
-// The refusal of texts that are not three ASCII characters each.
-pub const NO_AXES: u32 = 9;
+use foundation::refusal::{Fault, Refusal};
 
 // Whether a text is three ASCII characters.
 fn is_three_ascii(text: &[u8]) -> bool
     ensures { result ≡ three_ascii text.now }
 {
-    if text.len() != 3 {
-        return false;
-    }
-    if text[0] >= 128 {
-        return false;
-    }
-    if text[1] >= 128 {
-        return false;
-    }
-    if text[2] >= 128 {
-        return false;
-    }
-    true
+    text.len() == 3 && text.is_ascii()
 }
 
 // The axes of a text of three characters.
@@ -42,31 +28,17 @@ fn axes_of(text: &[u8]) -> Axes
 }
 
 // The axes that the texts of ORIN and ORIO name.
-pub fn orientations_of(orin: &[u8], orio: &[u8]) -> Orientations
+#[tactic(auto, using(axes::proofs::Lengths::three_long), unfolding(axes::specs::Matrix::orientations_of))]
+pub fn orientations_of(orin: &[u8], orio: &[u8]) -> Result<Orientations, Refusal>
     ensures { result ≡ orientations_of orin.now orio.now }
 {
-    if is_three_ascii(orin) {
-        if is_three_ascii(orio) {
-            return Orientations::Are {
-                orin: axes_of(orin),
-                orio: axes_of(orio),
-            };
-        }
+    if is_three_ascii(orin) && is_three_ascii(orio) {
+        return Ok(Orientations {
+            orin: axes_of(orin),
+            orio: axes_of(orio),
+        });
     }
-    Orientations::Refused {
-        number: NO_AXES,
-        place: 0,
-    }
-}
-
-// The small letter of a letter; any other character is its own.
-fn lowered(c: u8) -> u8
-    ensures { result ≡ small c }
-{
-    if c < b'A' {
-        return c;
-    }
-    if c <= b'Z' { c + 32 } else { c }
+    Err(Fault::NoAxes.at(0))
 }
 
 // What stands where the row of an ORIO letter meets the column of an ORIN letter.
@@ -76,7 +48,11 @@ fn entry(o: u8, i: u8) -> f32
     if i == o {
         return 1.0;
     }
-    if lowered(i) == lowered(o) { -1.0 } else { 0.0 }
+    if i.eq_ignore_ascii_case(&o) {
+        -1.0
+    } else {
+        0.0
+    }
 }
 
 // The row of an ORIO letter: a column for each ORIN letter.

@@ -4,7 +4,8 @@ use mathlib.Core.Path.{◌≡◌, refl}
 use mathlib.Core.List.{[], ◌∷◌}
 use lib.Dec.{lit<}
 use Rattle.foundation.specs.Text.{characters}
-use Rattle.custom_type.specs.declared.Expanded.TheVariants.{TooLong}
+use Rattle.std.specs.Prelude.{Err}
+use Rattle.foundation.specs.declared.refusal.Fault.TheVariants.{LongType}
 use Rattle.foundation.specs.Digits.{worth_of}
 use Rattle.custom_type.specs.Number.{readable, without_plus}
 use Rattle.custom_type.specs.Expansion.{copied, step, gone_through, expanded}
@@ -35,6 +36,6 @@ edges =
     }
 
 -- refused without writing out a single copy
-pub most_of_64_bits : told (expanded (characters "f[18446744073709551615]")) ≡ TooLong
+pub most_of_64_bits : told (expanded (characters "f[18446744073709551615]")) ≡ Err LongType
 unfolding readable without_plus worth_of
 most_of_64_bits = large (code "f") (characters "18446744073709551615") refl refl (lit< tt)

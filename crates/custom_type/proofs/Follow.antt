@@ -8,8 +8,8 @@ use Rattle.custom_type.specs.declared.step.Held.{Held}
 use Rattle.custom_type.specs.declared.step.Turn.{Turn}
 use Rattle.custom_type.specs.Number.{number_in}
 use Rattle.custom_type.specs.Expansion.{Expansion, Mark, mark_of, step_by, copied, opened, closed, letter_by, with_letter, step}
-use Rattle.custom_type.specs.Held.{is_empty, count_of, next_count, last_copied, held_of, Follows, Turned}
-use Rattle.custom_type.proofs.Number.{count_more}
+use Rattle.custom_type.specs.Held.{is_empty, count_of, number_of, next_count, last_copied, held_of, Follows, Turned}
+use Rattle.custom_type.proofs.Number.{count_more, count_number}
 use Rattle.custom_type.proofs.Last.{letter_last, letter_some, copies_last, copies_some, copies_run}
 
 -- what is held, with other things held of the number or the brackets
@@ -25,10 +25,10 @@ behind h k x none e =
     let n = number_in x.collected - 1 in
     ap (λ (h : Held). with h false k) e ∙ rw (none, copies_some n x.written, copies_last n x.written)
 
-pub copies_follow : (h : Held) (k : Count) (n : ℕ) → k ≡ count_of [] → n ≡ cond h.written (h.count.number - 1) 0
+pub copies_follow : (h : Held) (k : Count) (n : ℕ) → k ≡ count_of [] → n ≡ cond h.written (number_of h.count - 1) 0
     → Turned h closed (record { held = with h false k; character = h.last; times = n })
 copies_follow h k n none q x e =
-    let often : n ≡ cond (not (is_empty x.written)) (number_in x.collected - 1) 0 = q ∙ ap (λ (h : Held). cond h.written (h.count.number - 1) 0) e in
+    let often : n ≡ cond (not (is_empty x.written)) (number_in x.collected - 1) 0 = q ∙ ap (λ (h : Held). cond h.written (number_of h.count - 1) 0) e ∙ ap (λ (m : ℕ). cond (not (is_empty x.written)) (m - 1) 0) (count_number x.collected) in
     let last : h.last ≡ last_copied x.written = ap (λ (h : Held). h.last) e in
     record {
       held = behind h k x none e;

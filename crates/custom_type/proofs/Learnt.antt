@@ -7,8 +7,9 @@ use native.Mathlib.Omega.{arith}
 use borrow.Author.Tests.{leb-true}
 use lib.ListN.{length, take, drop, length-append}
 use lib.Seq.{take_at}
-use Rattle.custom_type.specs.declared.Expanded.{Expanded}
-use Rattle.custom_type.specs.declared.Expanded.TheVariants.{Characters, TooLong}
+use Rattle.std.specs.Prelude.{Result, Ok, Err}
+use Rattle.foundation.specs.declared.refusal.Fault.{Fault}
+use Rattle.foundation.specs.declared.refusal.Fault.TheVariants.{LongType}
 use Rattle.custom_type.specs.Expansion.{expanded}
 use Rattle.custom_type.specs.Resolved.{fits, laid_if, Resolved}
 use Rattle.custom_type.proofs.Answer.{told_characters, told_over}
@@ -20,8 +21,8 @@ pub record Accepted (text b : List ℕ) (n : ℕ) : Type 0 where
   pub there : n ≤ length b
   pub characters : take n b ≡ expanded text
 
-module _ {text a b : List ℕ} {r : Expanded} (p : Resolved text a b r) where
-  pub accepted : (n : ℕ) → r ≡ Characters n → Accepted text b n
+module _ {text a b : List ℕ} {r : Result ℕ Fault} (p : Resolved text a b r) where
+  pub accepted : (n : ℕ) → r ≡ Ok n → Accepted text b n
   accepted n q =
       let e = expanded text in
       let t : (fits e ≡ true) × (length e ≡ n) = told_characters e n (sym p.is ∙ q) in
@@ -33,5 +34,9 @@ module _ {text a b : List ℕ} {r : Expanded} (p : Resolved text a b r) where
         characters = ap (take n) laid ∙ take_at e (drop (length e) a) n t.1;
       }
 
-  pub refused : r ≡ TooLong → fits (expanded text) ≡ false
-  refused q = told_over (expanded text) (sym p.is ∙ q)
+  pub refused : (f : Fault) → r ≡ Err f → fits (expanded text) ≡ false
+  refused f q = (told_over (expanded text) f (sym p.is ∙ q)).0
+
+  -- and by which fault
+  pub refused_by : (f : Fault) → r ≡ Err f → f ≡ LongType
+  refused_by f q = (told_over (expanded text) f (sym p.is ∙ q)).1

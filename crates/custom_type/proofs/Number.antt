@@ -10,9 +10,10 @@ use borrow.Author.Tests.{ltb-false, le-ltb}
 use lib.Dec.{ltb, eqb}
 use lib.ListN.{length, length-append}
 use Rattle.custom_type.specs.declared.count.Count.{Count}
+use Rattle.custom_type.specs.declared.count.Count.TheVariants.{Number, Unreadable}
 use Rattle.foundation.specs.Digits.{worth_of, are_digits, worth}
-use Rattle.custom_type.specs.Number.{readable, without_plus}
-use Rattle.custom_type.specs.Held.{count_of, digits, unreadable, with_digit, next_count}
+use Rattle.custom_type.specs.Number.{readable, without_plus, number_in}
+use Rattle.custom_type.specs.Held.{count_of, number_of, with_digit, next_count}
 
 digits_more : (s : List ℕ) (c : ℕ) → are_digits 10 (s ++ c ∷ []) ≡ (are_digits 10 s && ltb (worth_of c) 10)
 digits_more [] c = and-true (ltb (worth_of c) 10)
@@ -28,11 +29,11 @@ worth_more (a ∷ s) c =
 
 -- the count of what stands behind a `+`, or at the front
 digits_count : List ℕ → Count
-digits_count s = cond (readable s) (digits (worth 10 s)) unreadable
+digits_count s = cond (readable s) (Number (worth 10 s)) Unreadable
 
 -- by whether those so far are digits, and whether 64 bits hold them
 by_tests : (all held : Bool) (n c : ℕ) → ltb n (2 ^ 64) ≡ held
-    → cond ((all && ltb (worth_of c) 10) && ltb (n * 10 + worth_of c) (2 ^ 64)) (digits (n * 10 + worth_of c)) unreadable ≡ next_count (cond (all && held) (digits n) unreadable) c
+    → cond ((all && ltb (worth_of c) 10) && ltb (n * 10 + worth_of c) (2 ^ 64)) (Number (n * 10 + worth_of c)) Unreadable ≡ next_count (cond (all && held) (Number n) Unreadable) c
 unfolding next_count
 by_tests false held n c e = refl
 by_tests true true n c e = refl
@@ -48,9 +49,15 @@ digit_more s c = rw (digits_more s c, worth_more s c) (by_tests (are_digits 10 s
 -- what was collected, the first character with it
 count_is : (a : ℕ) (s : List ℕ) → count_of (a ∷ s) ≡ digits_count (without_plus (a ∷ s))
 unfolding digits_count
-count_is a s = go (readable (without_plus (a ∷ s))) (worth 10 (without_plus (a ∷ s)))
+count_is a s = refl
+
+-- and its number
+pub count_number : (s : List ℕ) → number_of (count_of s) ≡ number_in s
+unfolding readable without_plus
+count_number [] = refl
+count_number (a ∷ s) = go (readable (without_plus (a ∷ s))) (worth 10 (without_plus (a ∷ s)))
   where
-    go : (b : Bool) (n : ℕ) → ◌≡◌ {A = Count} (record { empty = false; readable = b; number = cond b n 0 }) (cond b (digits n) unreadable)
+    go : (b : Bool) (n : ℕ) → number_of (cond b (Number n) Unreadable) ≡ cond b n 0
     go true n = refl
     go false n = refl
 
@@ -66,7 +73,7 @@ first : (c : ℕ) → digits_count (without_plus (c ∷ [])) ≡ next_count (cou
 unfolding without_plus digits_count readable next_count
 first c = go (eqb c 43)
   where
-    go : (b : Bool) → digits_count (cond b [] (c ∷ [])) ≡ cond b (digits 0) (with_digit 0 c)
+    go : (b : Bool) → digits_count (cond b [] (c ∷ [])) ≡ cond b (Number 0) (with_digit 0 c)
     go true = refl
     go false = digit_more [] c
 

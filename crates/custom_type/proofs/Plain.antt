@@ -8,7 +8,8 @@ use native.Mathlib.Omega.{arith}
 use lib.Dec.{eqb}
 use lib.ListN.{length, replicate, length-replicate}
 use lib.Seq.{append_snoc}
-use Rattle.custom_type.specs.declared.Expanded.TheVariants.{TooLong}
+use Rattle.std.specs.Prelude.{Err}
+use Rattle.foundation.specs.declared.refusal.Fault.TheVariants.{LongType}
 use Rattle.custom_type.specs.Number.{number_in}
 use Rattle.custom_type.specs.Expansion.{Expansion, Mark, letter, mark_of, start, copied, step_by, step, gone_through, expanded}
 use Rattle.custom_type.specs.Resolved.{told}
@@ -67,7 +68,7 @@ n_of x n l e =
     ∙ ap (λ (y : Expansion). (gone_through y (code "]" ∷ [])).written) (collect n (x ∷ []) [] e)
 
 -- so a large n is refused, and nothing is counted up
-pub large : (x : ℕ) (n : List ℕ) → is_letter x ≡ true → are_letters n ≡ true → 256 < number_in n → told (expanded (x ∷ code "[" ∷ (n ++ code "]" ∷ []))) ≡ TooLong
+pub large : (x : ℕ) (n : List ℕ) → is_letter x ≡ true → are_letters n ≡ true → 256 < number_in n → told (expanded (x ∷ code "[" ∷ (n ++ code "]" ∷ []))) ≡ Err LongType
 large x n l e h =
     let long : length (expanded (x ∷ code "[" ∷ (n ++ code "]" ∷ []))) ≡ 1 + (number_in n - 1) =
     ap length (n_of x n l e) ∙ one_behind (number_in n - 1) in

@@ -1,10 +1,11 @@
 -- What the code holds of an expansion while it goes through a text, and what it says of one character more. Assumes nothing: these are definitions.
 use Rattle.std.specs.Prelude.{ℕ, ◌+◌, ◌*◌, ◌^◌, ◌≡◌, Bool, true, false, cond, not, ◌&&◌, List, [], ◌∷◌, ◌++◌, ltb, eqb, take, replicate}
 use Prim.Native.Char.{code}
-use Rattle.foundation.specs.Digits.{worth_of}
-use Rattle.custom_type.specs.Number.{readable, without_plus, number_in}
+use Rattle.foundation.specs.Digits.{worth_of, worth}
+use Rattle.custom_type.specs.Number.{readable, without_plus}
 use Rattle.custom_type.specs.Expansion.{Expansion, start, copied, last_of, gone_through}
 use Rattle.custom_type.specs.declared.count.Count.{Count}
+use Rattle.custom_type.specs.declared.count.Count.TheVariants.{Empty, Number, Unreadable}
 use Rattle.custom_type.specs.declared.step.Held.{Held}
 use Rattle.custom_type.specs.declared.step.Turn.{Turn}
 
@@ -17,23 +18,24 @@ is_empty (c ∷ s) = false
 
 -- what was collected, as a number so far
 abbrev pub count_of : List ℕ → Count
-count_of s = record { empty = is_empty s; readable = readable (without_plus s); number = number_in s }
+count_of [] = Empty
+count_of (c ∷ s) = cond (readable (without_plus (c ∷ s))) (Number (worth 10 (without_plus (c ∷ s)))) Unreadable
 
--- the digits of a number
-abbrev pub digits : ℕ → Count
-digits n = record { empty = false; readable = true; number = n }
-
--- no number, whatever comes
-abbrev pub unreadable : Count
-unreadable = record { empty = false; readable = false; number = 0 }
+-- the number: 0 where there is none
+abbrev pub number_of : Count → ℕ
+number_of Empty = 0
+number_of (Number n) = n
+number_of Unreadable = 0
 
 -- one character more behind the digits of a number
 abbrev pub with_digit : ℕ → ℕ → Count
-with_digit n c = cond (ltb (worth_of c) 10 && ltb (n * 10 + worth_of c) (2 ^ 64)) (digits (n * 10 + worth_of c)) unreadable
+with_digit n c = cond (ltb (worth_of c) 10 && ltb (n * 10 + worth_of c) (2 ^ 64)) (Number (n * 10 + worth_of c)) Unreadable
 
 -- one character more behind what was collected: a `+` is read in front alone
 unfoldable pub next_count : Count → ℕ → Count
-next_count k c = cond k.empty (cond (eqb c (code "+")) (digits 0) (with_digit 0 c)) (cond k.readable (with_digit k.number c) k)
+next_count Empty c = cond (eqb c (code "+")) (Number 0) (with_digit 0 c)
+next_count (Number n) c = with_digit n c
+next_count Unreadable c = Unreadable
 
 -- ---- the expansion
 

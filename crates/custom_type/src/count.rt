@@ -1,15 +1,16 @@
 // The number between `[` and `]`, a character at a time.
 ghost use Rattle.std.specs.Prelude.{◌≡◌, cond, [], ◌-◌};
-ghost use Rattle.custom_type.specs.Held.{count_of, with_digit, next_count};
+ghost use Rattle.custom_type.specs.Held.{count_of, number_of, with_digit, next_count};
 
 // What was collected, as a number so far.
 #[derive(Clone, Copy)]
-pub(crate) struct Count {
+pub(crate) enum Count {
     // nothing yet: a `+` may come
-    pub(crate) empty: bool,
-    pub(crate) readable: bool,
-    // 0 where it is not readable
-    pub(crate) number: usize,
+    Empty,
+    // digits of a number of 64 bits
+    Number(usize),
+    // no number, whatever comes
+    Unreadable,
 }
 
 // With one character more behind its digits, which has to be a digit and to leave a number of 64 bits.
@@ -20,61 +21,39 @@ fn with_digit(number: usize, c: u8) -> Count
         if c <= b'9' {
             let digit = (c - b'0') as usize;
             if number <= (18446744073709551615 - digit) / 10 {
-                return Count {
-                    empty: false,
-                    readable: true,
-                    number: number * 10 + digit,
-                };
+                return Count::Number(number * 10 + digit);
             }
         }
     }
-    Count {
-        empty: false,
-        readable: false,
-        number: 0,
-    }
+    Count::Unreadable
 }
 
 impl Count {
     pub(crate) fn new() -> Count
         ensures { result ≡ count_of [] }
     {
-        Count {
-            empty: true,
-            readable: true,
-            number: 0,
-        }
+        Count::Empty
     }
 
     // With one character more.
     pub(crate) fn with(self, c: u8) -> Count
         ensures { result ≡ next_count self c }
     {
-        if self.empty {
-            if c == b'+' {
-                return Count {
-                    empty: false,
-                    readable: true,
-                    number: 0,
-                };
-            }
-            return with_digit(0, c);
+        match self {
+            Count::Empty if c == b'+' => Count::Number(0),
+            Count::Empty => with_digit(0, c),
+            Count::Number(number) => with_digit(number, c),
+            Count::Unreadable => Count::Unreadable,
         }
-        if self.readable {
-            return with_digit(self.number, c);
-        }
-        self
     }
 
     // How often the last character is copied, if one was written.
     pub(crate) fn copies(self, written: bool) -> usize
-        ensures { result ≡ cond written (self.number - 1) 0 }
+        ensures { result ≡ cond written (number_of self - 1) 0 }
     {
-        if written {
-            if 1 < self.number {
-                return self.number - 1;
-            }
+        match self {
+            Count::Number(number) if written => number.saturating_sub(1),
+            _ => 0,
         }
-        0
     }
 }

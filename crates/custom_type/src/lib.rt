@@ -9,48 +9,34 @@ ghost use Rattle.std.specs.Prelude.{◌≡◌, ◌≤◌, true, length, replicat
 ghost use Rattle.custom_type.specs.Expansion.{expanded};
 ghost use Rattle.custom_type.specs.Resolved.{told, laid_if, Resolved};
 
+use foundation::refusal::Fault;
 use step::Held;
 
-// What a text is written out to.
-#[derive(Clone, Copy)]
-pub enum Expanded {
-    // so many characters
-    Characters(usize),
-    // more than 256
-    TooLong,
-}
-
 // How many characters a text stands for. A run is counted at once, however many copies it has: the first that does not fit ends it.
-fn measure(text: &[u8]) -> Expanded
+fn measure(text: &[u8]) -> Result<usize, Fault>
     ensures { result ≡ told (expanded text.now) }
 {
     let mut held = Held::new();
     let mut written: usize = 0;
-    let mut i: usize = 0;
-    while i < text.len() {
-        let turn = held.step(text[i]);
+    for c in text {
+        let turn = held.step(*c);
         if 256 - written < turn.times {
-            return Expanded::TooLong;
+            return Err(Fault::LongType);
         }
         written += turn.times;
         held = turn.held;
-        i += 1;
     }
-    Expanded::Characters(written)
+    Ok(written)
 }
 
 // A run of one character. Most have one place, which is stored at once, without a call of the C library.
 fn fill(part: &mut [u8], character: u8)
     ensures { part.new ≡ replicate (length part.old) character }
 {
-    if part.len() == 1 {
-        part[0] = character;
-        return;
-    }
-    let mut i: usize = 0;
-    while i < part.len() {
-        part[i] = character;
-        i += 1;
+    if let [only] = part {
+        *only = character;
+    } else {
+        part.fill(character);
     }
 }
 
@@ -61,24 +47,21 @@ fn write(text: &[u8], out: &mut [u8])
 {
     let mut held = Held::new();
     let mut at: usize = 0;
-    let mut i: usize = 0;
-    while i < text.len() {
-        let turn = held.step(text[i]);
+    for c in text {
+        let turn = held.step(*c);
         let end = at + turn.times;
         fill(&mut out[at..end], turn.character);
         at = end;
         held = turn.held;
-        i += 1;
     }
 }
 
-// Writes a TYPE text out into the lent array, whose rest stays; a text of more than 256 characters leaves it as it was.
-pub fn resolve_custom_type(text: &[u8], out: &mut [u8; 256]) -> Expanded
+// Writes a TYPE text out into the lent array, whose rest stays, and answers how many characters were written; a text of
+// more than 256 characters is refused, and leaves the array as it was.
+pub fn resolve_custom_type(text: &[u8], out: &mut [u8; 256]) -> Result<usize, Fault>
     ensures { Resolved text.now out.old out.new result }
 {
-    let answer = measure(text);
-    if let Expanded::Characters(_) = answer {
-        write(text, out);
-    }
-    answer
+    let written = measure(text)?;
+    write(text, out);
+    Ok(written)
 }

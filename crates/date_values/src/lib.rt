@@ -7,40 +7,34 @@ ghost use Rattle.dates.specs.Date.{date_of};
 ghost use Rattle.value.specs.Value.{dated};
 ghost use Rattle.value.specs.Answer.{element_in, shape_in};
 
-use dates::Date;
 use elements::Element;
-use value::{Kind, Read, Shape, Shaped};
+use foundation::refusal::{Fault, Refusal};
+use value::{Kind, Shape};
 
 // The element of a date, which is one row of one column.
-pub fn date_element(place: usize, payload: &[u8], row: usize, column: usize) -> Read
+pub fn date_element(
+    place: usize,
+    payload: &[u8],
+    row: usize,
+    column: usize,
+) -> Result<Element, Refusal>
     ensures { result ≡ element_in place (dated (date_of payload.now)) row column }
 {
-    match dates::parse_utcdate(payload) {
-        Date::TooFew => Read::Refused { number: 6, place },
-        Date::Unreadable => Read::Refused { number: 7, place },
-        Date::Milliseconds(n) => {
-            if 0 < row {
-                return Read::Refused { number: 13, place };
-            }
-            if 0 < column {
-                return Read::Refused { number: 13, place };
-            }
-            Read::Is(Element::Unsigned(n))
-        }
+    let milliseconds = dates::parse_utcdate(payload).map_err(|fault| fault.at(place))?;
+    if 0 < row || 0 < column {
+        return Err(Fault::Outside.at(place));
     }
+    Ok(Element::Unsigned(milliseconds))
 }
 
 // The shape of a date.
-pub fn date_shape(place: usize, payload: &[u8]) -> Shaped
+pub fn date_shape(place: usize, payload: &[u8]) -> Result<Shape, Refusal>
     ensures { result ≡ shape_in place (dated (date_of payload.now)) }
 {
-    match dates::parse_utcdate(payload) {
-        Date::TooFew => Shaped::Refused { number: 6, place },
-        Date::Unreadable => Shaped::Refused { number: 7, place },
-        Date::Milliseconds(_) => Shaped::Is(Shape {
-            kind: Kind::DateTime,
-            rows: 1,
-            columns: 1,
-        }),
-    }
+    dates::parse_utcdate(payload).map_err(|fault| fault.at(place))?;
+    Ok(Shape {
+        kind: Kind::DateTime,
+        rows: 1,
+        columns: 1,
+    })
 }

@@ -2,6 +2,7 @@
 use Prim.Native.Nat.{ℕ, suc, ◌+◌, ◌-◌, ◌*◌, ◌^◌, ◌<◌, ◌≤◌}
 use mathlib.Core.Path.{◌≡◌, sym, ap, ◌∙◌}
 use mathlib.Core.Bool.{true, cond}
+use mathlib.Core.Logic.{◌⊎◌, inl, inr}
 use mathlib.Core.List.{List, ◌∷◌}
 use native.Mathlib.Nat.{pow-suc, pow-zero, pow-le-pow_right, mul-one, zero-mul, zero-add, add-zero}
 use native.Mathlib.Numerals.{add-one}
@@ -11,15 +12,14 @@ use lib.Arith.{digits_lt}
 use lib.Dec.{ltb, lit<}
 use lib.ListN.{length, get_or}
 use lib.Seq.{slice, slice-cons, slice_empty}
+use Rattle.std.specs.Prelude.{Option, Some, None}
 use Rattle.foundation.specs.Digits.{worth_of, are_digits, worth}
 use Rattle.foundation.proofs.Digits.{below_digits, above_digits, decimal_digit, digit_read}
-use Rattle.dates.specs.declared.fields.Number.{Number}
-use Rattle.dates.specs.declared.fields.Number.TheVariants as number
 use Rattle.dates.specs.Fields.{digits, field}
 
 -- digits behind a number: each makes ten times what stands before it, and itself
-unfoldable pub digits_after : ℕ → List ℕ → Number
-digits_after n s = cond (are_digits 10 s) (number.Is (n * 10 ^ length s + worth 10 s)) number.Unreadable
+unfoldable pub digits_after : ℕ → List ℕ → Option ℕ
+digits_after n s = cond (are_digits 10 s) (Some (n * 10 ^ length s + worth 10 s)) None
 
 digit_more : (n c : ℕ) (s : List ℕ) → 48 ≤ c → c ≤ 57 → digits_after n (c ∷ s) ≡ digits_after (n * 10 + (c - 48)) s
 unfolding digits_after
@@ -27,7 +27,7 @@ digit_more n c s low high =
     let is : worth_of c ≡ c - 48 = decimal_digit c low high in
     let digit : ltb (worth_of c) 10 ≡ true = lt-ltb (worth_of c) 10 (omega (arith, is)) in
     rw digit
-    (ap (λ (k : ℕ). cond (are_digits 10 s) (number.Is k) number.Unreadable) (digit_read 10 n c s ∙ ap (λ (d : ℕ). (n * 10 + d) * 10 ^ length s + worth 10 s) is))
+    (ap (λ (k : ℕ). cond (are_digits 10 s) (Some k) None) (digit_read 10 n c s ∙ ap (λ (d : ℕ). (n * 10 + d) * 10 ^ length s + worth 10 s) is))
 
 module _ (text : List ℕ) (i to : ℕ) (some : i < to) (inside : to ≤ length text) where
   -- a field with a byte
@@ -43,15 +43,20 @@ module _ (text : List ℕ) (i to : ℕ) (some : i < to) (inside : to ≤ length 
       ∙ ap (λ (k : ℕ). digits_after (n * 10 + (c - 48)) (field text k to)) (sym (add-one i))
 
   -- its first byte is below or above the digits
-  pub below : (n : ℕ) → get_or text i 0 < 48 → digits_after n (field text i to) ≡ number.Unreadable
+  below : (n : ℕ) → get_or text i 0 < 48 → digits_after n (field text i to) ≡ None
   unfolding digits_after
   below n h = rw (slice-cons i to text 0 some inside, le-ltb (worth_of (get_or text i 0)) 10 (below_digits (get_or text i 0) h))
 
-  pub above : (n : ℕ) → 48 ≤ get_or text i 0 → 57 < get_or text i 0 → digits_after n (field text i to) ≡ number.Unreadable
+  above : (n : ℕ) → 48 ≤ get_or text i 0 → 57 < get_or text i 0 → digits_after n (field text i to) ≡ None
   unfolding digits_after
   above n low h = rw (slice-cons i to text 0 some inside, le-ltb (worth_of (get_or text i 0)) 10 (above_digits (get_or text i 0) h))
 
-pub no_more : (text : List ℕ) (to n : ℕ) → digits_after n (field text to to) ≡ number.Is n
+  -- so none is read where it is no digit
+  pub no_digit : (n : ℕ) → (get_or text i 0 < 48) ⊎ (57 < get_or text i 0) → digits_after n (field text i to) ≡ None
+  no_digit n (inl h) = below n h
+  no_digit n (inr h) = above n (omega arith) h
+
+pub no_more : (text : List ℕ) (to n : ℕ) → digits_after n (field text to to) ≡ Some n
 unfolding digits_after
 no_more text to n = rw (slice_empty to text, pow-zero, mul-one, add-zero)
 

@@ -9,8 +9,7 @@ use borrow.Author.Tests.{eq-eqb, ne_eqb}
 use lib.Dec.{lit<}
 use lib.ListN.{length, get_or}
 use lib.Seq.{slice-cons}
-use Rattle.dates.specs.declared.fields.Number.{Number}
-use Rattle.dates.specs.declared.fields.Number.TheVariants as number
+use Rattle.std.specs.Prelude.{Option, Some, None}
 use Rattle.dates.specs.Fields.{given, digits, unsigned, year, field}
 use Rattle.dates.specs.Bounds.{Below}
 
@@ -23,17 +22,17 @@ module _ (text : List ℕ) (from to : ℕ) (some : from < to) (inside : to ≤ l
   unfolding unsigned
   no_plus h = rw (slice-cons from to text 0 some inside, ne_eqb (get_or text from 0) 43 h)
 
-  pub minus : (r : Number) → get_or text from 0 ≡ 45 → r ≡ digits (field text (from + 1) to) → year (field text from to) ≡ given number.Unreadable r λ n. number.Is (2000 - n)
+  pub minus : (r : Option ℕ) → get_or text from 0 ≡ 45 → r ≡ digits (field text (from + 1) to) → year (field text from to) ≡ given None r λ n. Some (2000 - n)
   unfolding year
   minus r h e = rw (slice-cons from to text 0 some inside, eq-eqb (get_or text from 0) 45 h, e, add-one)
 
-  pub no_minus : (r : Number) → (get_or text from 0 ≡ 45 → ⊥) → r ≡ unsigned (field text from to) → year (field text from to) ≡ given number.Unreadable r λ n. number.Is (2000 + n)
+  pub no_minus : (r : Option ℕ) → (get_or text from 0 ≡ 45 → ⊥) → r ≡ unsigned (field text from to) → year (field text from to) ≡ given None r λ n. Some (2000 + n)
   unfolding year
   no_minus r h e = rw (e, slice-cons from to text 0 some inside, ne_eqb (get_or text from 0) 45 h)
 
 -- a byte more allows a larger number
-pub wider : (k l : ℕ) (r : Number) → k ≤ l → Below (10 ^ k) r → Below (10 ^ l) r
-wider k l (number.Is n) h below =
+pub wider : (k l : ℕ) (r : Option ℕ) → k ≤ l → Below (10 ^ k) r → Below (10 ^ l) r
+wider k l (Some n) h below =
     let up : 10 ^ k ≤ 10 ^ l = pow-le-pow_right {n = 10} (lit< tt) h in
     omega arith
-wider k l number.Unreadable h below = tt
+wider k l None h below = tt

@@ -1,14 +1,8 @@
 -- What the crate's own functions ask of and tell one another besides the definitions: places within the text, and how large a number can be.
 -- Assumes nothing: these are definitions.
-use Rattle.std.specs.Prelude.{ℕ, ◌+◌, ◌≤◌, ◌<◌, List, length}
-use Rattle.dates.specs.declared.fields.Number.{Number}
-use Rattle.dates.specs.declared.fields.Number.TheVariants as number
+use Rattle.std.specs.Prelude.{ℕ, ◌+◌, ◌≤◌, ◌<◌, List, length, Option, Some, None}
 use Rattle.dates.specs.declared.fields.Day.{Day}
 use Rattle.dates.specs.declared.fields.Time.{Time}
-use Rattle.dates.specs.declared.fields.ReadDay.{ReadDay}
-use Rattle.dates.specs.declared.fields.ReadDay.TheVariants as day
-use Rattle.dates.specs.declared.fields.ReadTime.{ReadTime}
-use Rattle.dates.specs.declared.fields.ReadTime.TheVariants as time
 
 -- a field of the text with a byte or more, and few enough that 64 bits hold their number
 pub record Field (text : List ℕ) (from to : ℕ) : Type 0 where
@@ -17,14 +11,14 @@ pub record Field (text : List ℕ) (from to : ℕ) : Type 0 where
   pub inside : to ≤ length text
 
 -- a number, where there is one, below a bound
-abbrev pub Below : ℕ → Number → Type 0
-Below bound (number.Is n) = n < bound
-Below bound number.Unreadable = Unit
+abbrev pub Below : ℕ → Option ℕ → Type 0
+Below bound (Some n) = n < bound
+Below bound None = Unit
 
 -- a year, where there is one, that two digits or a sign and a digit can say
-abbrev pub AYear : Number → Type 0
-AYear (number.Is n) = (1991 ≤ n) × (n < 2100)
-AYear number.Unreadable = Unit
+abbrev pub AYear : Option ℕ → Type 0
+AYear (Some n) = (1991 ≤ n) × (n < 2100)
+AYear None = Unit
 
 -- a day of such a year
 pub record YearBounds (d : Day) : Type 0 where
@@ -47,11 +41,11 @@ pub record TimeBounds (t : Time) : Type 0 where
   pub milliseconds : t.millisecond < 1000
 
 -- a day as it can be read
-abbrev pub DayInRange : ReadDay → Type 0
-DayInRange (day.Is d) = YearBounds d
-DayInRange day.Unreadable = Unit
+abbrev pub DayInRange : Option Day → Type 0
+DayInRange (Some d) = YearBounds d
+DayInRange None = Unit
 
 -- a time as it can be read
-abbrev pub TimeInRange : ReadTime → Type 0
-TimeInRange (time.Is t) = t.millisecond < 1000
-TimeInRange time.Unreadable = Unit
+abbrev pub TimeInRange : Option Time → Type 0
+TimeInRange (Some t) = t.millisecond < 1000
+TimeInRange None = Unit

@@ -40,10 +40,8 @@ fn days_before_month(year: u64, month: u64) -> u64
     ensures { (result ≡ days_before_month year month) × (result ≤ 341) }
 {
     let mut days: u64 = 0;
-    let mut done: u64 = 0;
-    while done < month - 1 {
-        done += 1;
-        days += days_of_month(year, done);
+    for m in 1..month {
+        days += days_of_month(year, m);
     }
     days
 }
@@ -79,10 +77,7 @@ pub(crate) fn milliseconds(d: Day, t: Time) -> u64
     requires { YearBounds d × (t.millisecond < 1000) }
     ensures { result ≡ milliseconds_of d t }
 {
-    if !possible_day(d) {
-        return 0;
-    }
-    if !possible_time(t) {
+    if !possible_day(d) || !possible_time(t) {
         return 0;
     }
     in_milliseconds(days_before(d), t)

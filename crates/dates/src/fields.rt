@@ -3,13 +3,6 @@ ghost use Rattle.std.specs.Prelude.{◌≡◌, ◌+◌, ◌-◌, ◌^◌, ◌<�
 ghost use Rattle.dates.specs.Fields.{digits, unsigned, year, field, day_of, time_of};
 ghost use Rattle.dates.specs.Bounds.{Field, Below, AYear, DayInRange, TimeInRange};
 
-// What the bytes of one field stand for.
-#[derive(Clone, Copy)]
-pub enum Number {
-    Is(u64),
-    Unreadable,
-}
-
 #[derive(Clone, Copy)]
 pub struct Day {
     pub year: u64,
@@ -25,41 +18,24 @@ pub struct Time {
     pub millisecond: u64,
 }
 
-#[derive(Clone, Copy)]
-pub enum ReadDay {
-    Is(Day),
-    Unreadable,
-}
-
-#[derive(Clone, Copy)]
-pub enum ReadTime {
-    Is(Time),
-    Unreadable,
-}
-
 // The digits of a field, and nothing else.
-fn digits(text: &[u8], from: usize, to: usize) -> Number
+fn digits(text: &[u8], from: usize, to: usize) -> Option<u64>
     requires { Field text.now from to }
     ensures { (result ≡ digits (field text.now from to)) × Below (10 ^ (to - from)) result }
 {
     let mut number: u64 = 0;
-    let mut i = from;
-    while i < to {
+    for i in from..to {
         let b = text[i];
-        if b < b'0' {
-            return Number::Unreadable;
+        if !b.is_ascii_digit() {
+            return None;
         }
-        if b'9' < b {
-            return Number::Unreadable;
-        }
-        number = number * 10 + (b - b'0') as u64;
-        i += 1;
+        number = number * 10 + u64::from(b - b'0');
     }
-    Number::Is(number)
+    Some(number)
 }
 
 // A leading `+` is read in each field.
-fn unsigned(text: &[u8], from: usize, to: usize) -> Number
+fn unsigned(text: &[u8], from: usize, to: usize) -> Option<u64>
     requires { Field text.now from to × (from + 1 < to) }
     ensures { (result ≡ unsigned (field text.now from to)) × Below (10 ^ (to - from)) result }
 {
@@ -70,60 +46,42 @@ fn unsigned(text: &[u8], from: usize, to: usize) -> Number
 }
 
 // A leading `-` is read in the year only.
-fn year(text: &[u8]) -> Number
+fn year(text: &[u8]) -> Option<u64>
     requires { 2 ≤ length text.now }
     ensures { (result ≡ year (field text.now 0 2)) × AYear result }
 {
     if text[0] == b'-' {
-        let Number::Is(n) = digits(text, 1, 2) else {
-            return Number::Unreadable;
-        };
-        return Number::Is(2000 - n);
+        let n = digits(text, 1, 2)?;
+        return Some(2000 - n);
     }
-    let Number::Is(n) = unsigned(text, 0, 2) else {
-        return Number::Unreadable;
-    };
-    Number::Is(2000 + n)
+    let n = unsigned(text, 0, 2)?;
+    Some(2000 + n)
 }
 
 // The first six bytes: yymmdd.
-pub(crate) fn parse_day(text: &[u8]) -> ReadDay
+pub(crate) fn parse_day(text: &[u8]) -> Option<Day>
     requires { 16 ≤ length text.now }
     ensures { (result ≡ day_of text.now) × DayInRange result }
 {
-    let Number::Is(year) = year(text) else {
-        return ReadDay::Unreadable;
-    };
-    let Number::Is(month) = unsigned(text, 2, 4) else {
-        return ReadDay::Unreadable;
-    };
-    let Number::Is(day) = unsigned(text, 4, 6) else {
-        return ReadDay::Unreadable;
-    };
-    ReadDay::Is(Day { year, month, day })
+    let year = year(text)?;
+    let month = unsigned(text, 2, 4)?;
+    let day = unsigned(text, 4, 6)?;
+    Some(Day { year, month, day })
 }
 
 // The ten bytes behind them: hhmmss, a byte that may be any ASCII byte, and the milliseconds.
-pub(crate) fn parse_time(text: &[u8]) -> ReadTime
+pub(crate) fn parse_time(text: &[u8]) -> Option<Time>
     requires { 16 ≤ length text.now }
     ensures { (result ≡ time_of text.now) × TimeInRange result }
 {
     if 128 <= text[12] {
-        return ReadTime::Unreadable;
+        return None;
     }
-    let Number::Is(hour) = unsigned(text, 6, 8) else {
-        return ReadTime::Unreadable;
-    };
-    let Number::Is(minute) = unsigned(text, 8, 10) else {
-        return ReadTime::Unreadable;
-    };
-    let Number::Is(second) = unsigned(text, 10, 12) else {
-        return ReadTime::Unreadable;
-    };
-    let Number::Is(millisecond) = unsigned(text, 13, 16) else {
-        return ReadTime::Unreadable;
-    };
-    ReadTime::Is(Time {
+    let hour = unsigned(text, 6, 8)?;
+    let minute = unsigned(text, 8, 10)?;
+    let second = unsigned(text, 10, 12)?;
+    let millisecond = unsigned(text, 13, 16)?;
+    Some(Time {
         hour,
         minute,
         second,

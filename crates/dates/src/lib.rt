@@ -8,29 +8,17 @@ mod fields;
 ghost use Rattle.std.specs.Prelude.{◌≡◌};
 ghost use Rattle.dates.specs.Date.{date_of};
 
-use fields::{ReadDay, ReadTime};
+use foundation::refusal::Fault;
 
-#[derive(Clone, Copy)]
-pub enum Date {
-    Milliseconds(u64),
-    // fewer than 16 bytes
-    TooFew,
-    // a field that is no number, or a thirteenth byte that is not ASCII
-    Unreadable,
-}
-
-// The first 16 bytes of a text as a date. A date or time that the calendar does not have is 0 milliseconds.
-pub fn parse_utcdate(text: &[u8]) -> Date
+// The milliseconds of the date in the first 16 bytes of a text: 0 for a date or time that the calendar does not have.
+// Fewer than 16 bytes are too few, and a field that is no number or a thirteenth byte that is not ASCII is unreadable.
+pub fn parse_utcdate(text: &[u8]) -> Result<u64, Fault>
     ensures { result ≡ date_of text.now }
 {
     if text.len() < 16 {
-        return Date::TooFew;
+        return Err(Fault::TooFew);
     }
-    let ReadDay::Is(day) = fields::parse_day(text) else {
-        return Date::Unreadable;
-    };
-    let ReadTime::Is(time) = fields::parse_time(text) else {
-        return Date::Unreadable;
-    };
-    Date::Milliseconds(calendar::milliseconds(day, time))
+    let day = fields::parse_day(text).ok_or(Fault::Unreadable)?;
+    let time = fields::parse_time(text).ok_or(Fault::Unreadable)?;
+    Ok(calendar::milliseconds(day, time))
 }

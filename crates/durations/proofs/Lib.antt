@@ -1,4 +1,5 @@
 pub mod Lists
+pub mod Finite
 pub mod Whole
 pub mod Steps
 pub mod Sizes

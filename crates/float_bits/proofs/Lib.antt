@@ -1,2 +1,1 @@
-mod EqualToItself
 pub mod Cases

@@ -1,6 +1,9 @@
 -- The numbers that refusals are told by, each under a name, with when it is given. Document 01, Refusal numbers: "Each is given then and not otherwise."
 -- Assumes nothing: these are definitions.
-use Rattle.std.specs.Prelude.{ℕ}
+use Rattle.std.specs.Prelude.{ℕ, Result, Err}
+use Rattle.foundation.specs.declared.refusal.Fault.{Fault}
+use Rattle.foundation.specs.declared.refusal.Fault.TheVariants as fault
+use Rattle.foundation.specs.declared.refusal.Refusal.{Refusal}
 
 -- "payload over the limit (place 0)"
 abbrev pub too_long : ℕ
@@ -53,3 +56,27 @@ no_item = 12
 -- "row or column outside the value"
 abbrev pub outside : ℕ
 outside = 13
+
+-- the number that a fault is told by
+abbrev pub number_of : Fault → ℕ
+number_of fault.TooLong = too_long
+number_of fault.PastEnd = past_end
+number_of fault.LeftOver = left_over
+number_of fault.TooDeep = too_deep
+number_of fault.NoRoom = no_room_left
+number_of fault.TooFew = too_few
+number_of fault.Unreadable = unreadable
+number_of fault.LongType = long_type
+number_of fault.NoAxes = no_axes
+number_of fault.NoMatrix = no_matrix
+number_of fault.BadDurations = bad_durations
+number_of fault.NoItem = no_item
+number_of fault.Outside = outside
+
+-- "A refusal returns its number, a place"
+abbrev pub refused_at : ℕ → ℕ → Refusal
+refused_at number place = record { number = number; place = place }
+
+-- the answer of a call that refuses
+abbrev pub refuse : {A : Type 0} → ℕ → ℕ → Result A Refusal
+refuse number place = Err (refused_at number place)

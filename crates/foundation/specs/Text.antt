@@ -1,7 +1,6 @@
 -- A text as bytes: in a payload a byte is a character (document 01, Values: Latin-1). Assumes nothing: these are definitions.
 use Rattle.std.specs.Prelude.{ℕ, List, [], ◌∷◌}
 use Prim.Native.Char.{code}
-use Prim.Native.String as String
 use Prim.Native.String.{String}
 use Rattle.foundation.specs.BigEndian.{big_endian}
 

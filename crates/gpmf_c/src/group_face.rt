@@ -1,4 +1,4 @@
-// What the rows of a group lead to.
+// What the rows of a group lead to. A group comes in parts: the C interface.
 ghost use Rattle.std.specs.Prelude.{◌≡◌};
 ghost use Rattle.tagged.specs.Tagged.{tagged_of, one_number};
 ghost use Rattle.scaling.specs.Quaternion.{negated16, scaled_by};

@@ -10,7 +10,7 @@ use lib.ListN.{length}
 use Rattle.reading.specs.Refusal.{too_long}
 use Rattle.reading.specs.Walk.{Outcome, refused, reading_of, room_of}
 use Rattle.walk.specs.Metadata.{told}
-use Rattle.walk.specs.declared.Metadata.TheVariants.{Refused}
+use Rattle.foundation.specs.Refusals.{refuse}
 use Rattle.listing_line.specs.Line.{answer_line}
 use Rattle.listing.specs.Listing.{record_lines, Lists}
 use Rattle.listing_line.specs.Lines.{LaysLines, Begins}
@@ -24,9 +24,9 @@ module _ (s : List ℕ) where
 
   -- more bytes than are held
   pub prints_refused : (out : List ℕ) {answer : ℕ} {after : List ℕ} → held_bytes < length s → length out ≡ 131072 → length after ≡ length out
-      → LaysLines (answer_line (Refused 1 0) ∷ []) out 0 answer after → Begins (printed s) answer after
+      → LaysLines (answer_line (refuse 1 0) ∷ []) out 0 answer after → Begins (printed s) answer after
   prints_refused out h room long l =
-      rw (read_as_lem true (lt-ltb held_bytes (length s) h)) (lines_begin (answer_line (Refused 1 0)) [] out (omega (arith, l.short)) (omega arith) long l.is l.leaves)
+      rw (read_as_lem true (lt-ltb held_bytes (length s) h)) (lines_begin (answer_line (refuse 1 0)) [] out (omega (arith, l.short)) (omega arith) long l.is l.leaves)
 
   -- any other payload
   pub prints_read : (rows out : List ℕ) {answer : ℕ} {new after : List ℕ} → length s ≤ held_bytes → length rows ≡ row_numbers → length out ≡ 131072 → length after ≡ length out

@@ -5,15 +5,12 @@
 ghost use Rattle.listing_line.specs.Lines.{Begins};
 ghost use Rattle.gpmf_list.specs.Printed.{printed};
 
-use metadata::Metadata;
+use foundation::refusal::Fault;
 use std::io;
 use std::io::Read;
 
 // The most bytes that are held of a payload; one more tells that there are more.
 const MOST_HELD: usize = 65536;
-
-// The refusal of a payload over the limit.
-const TOO_LONG: u32 = 1;
 
 fn main(rt: HostRuntime) {
     let mut input = [0u8; 65537];
@@ -24,18 +21,11 @@ fn main(rt: HostRuntime) {
     };
     let mut rows = [0u32; 16384];
     let mut out = [0u8; 131072];
-    let end = print(first(&input, count as usize), &mut rows, &mut out);
+    let payload = &input[..(count as usize).min(input.len())];
+    let end = print(payload, &mut rows, &mut out);
     if rt.write_all(&out[..end]).is_err() {
         let _ = rt.eprintln("gpmf_list: writing failed");
     }
-}
-
-// The first bytes of some, or all where there are not so many.
-fn first(s: &[u8], count: usize) -> &[u8] {
-    if s.len() < count {
-        return s;
-    }
-    &s[..count]
 }
 
 // Lays all that is printed for a payload, which always fits.
@@ -43,11 +33,7 @@ fn print(payload: &[u8], rows: &mut [u32; 16384], out: &mut [u8; 131072]) -> usi
     ensures { Begins (printed payload.now) result out.new }
 {
     if MOST_HELD < payload.len() {
-        let answer = Metadata::Refused {
-            number: TOO_LONG,
-            place: 0,
-        };
-        return listing_line::put_answer(out, 0, answer);
+        return listing_line::put_answer(out, 0, Err(Fault::TooLong.at(0)));
     }
     listing::list(payload, rows, out, 0)
 }

@@ -3,18 +3,12 @@ use raw_file::Packet;
 use std::io;
 use std::io::{Cursor, Read};
 
-// How many they are, and whether the file ends with them.
-#[derive(Clone, Copy)]
+// How many they are, and whether the file ends with them; none before the first read.
+#[derive(Clone, Copy, Default)]
 pub(crate) struct Held {
     pub count: usize,
     pub ended: bool,
 }
-
-// Before the first read.
-pub(crate) const NOTHING: Held = Held {
-    count: 0,
-    ended: false,
-};
 
 // Lets go of the bytes in front of a place, and reads on behind the rest.
 pub(crate) fn read_on(
@@ -44,21 +38,10 @@ fn read_chunk(rt: &(impl Input + Eprint), chunk: &mut [u8]) -> usize {
 
 // The first bytes of some, or all where there are not so many.
 pub(crate) fn first(s: &[u8], count: usize) -> &[u8] {
-    if s.len() < count {
-        return s;
-    }
-    &s[..count]
+    &s[..count.min(s.len())]
 }
 
 // The bytes of a packet; none where it does not lie among them.
 pub(crate) fn part(s: &[u8], packet: Packet) -> &[u8] {
-    let start = packet.start;
-    let end = packet.end;
-    if end < start {
-        return &s[..0];
-    }
-    if s.len() < end {
-        return &s[..0];
-    }
-    &s[start..end]
+    s.get(packet.start..packet.end).unwrap_or_default()
 }

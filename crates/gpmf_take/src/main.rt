@@ -6,6 +6,8 @@
 mod held;
 mod printed;
 
+use held::Held;
+use printed::Counts;
 use std::env::{Env, FillError};
 use window::{Places, Step};
 
@@ -46,9 +48,10 @@ fn take_all(
     rows: &mut [u32; 16384],
     out: &mut [u8; 262144],
 ) {
-    let mut held = held::NOTHING;
+    let mut held = Held::default();
     let mut places = START;
-    let mut counts = printed::NONE;
+    let mut counts = Counts::default();
+    // so many that no file has more: a `loop` is not seen to end
     for _ in 0..u64::MAX {
         let window = held::first(bytes, held.count);
         match window::next_step(places, window, !held.ended) {
@@ -58,7 +61,7 @@ fn take_all(
                 rest,
             } => {
                 let payload = held::part(window, packet);
-                counts = printed::put_packet(rt, counts, payload, start, whole, rows, out);
+                counts = counts.put_packet(rt, payload, start, whole, rows, out);
                 places = rest;
             }
             Step::Long {
@@ -66,7 +69,7 @@ fn take_all(
                 bytes: count,
                 rest,
             } => {
-                counts = printed::put_long(rt, counts, start, count, whole, out);
+                counts = counts.put_long(rt, start, count, whole, out);
                 places = rest;
             }
             Step::Read { from, rest } => {
@@ -76,5 +79,5 @@ fn take_all(
             Step::End => break,
         }
     }
-    printed::put_totals(rt, counts, out);
+    counts.put_totals(rt, out);
 }

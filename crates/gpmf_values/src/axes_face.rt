@@ -55,7 +55,12 @@ pub extern "C" fn gpmf_orientation_of_group(
 ) -> AxesAnswer
     ensures { result ≡ of_oriented (orientation_of_group payload.now rows.now count group_kind group_key) }
 {
-    orientation_answers::of_oriented(orientation::orientation_of_group(
-        payload, rows, count, group_kind, group_key,
-    ))
+    let group = tagged::Group {
+        payload,
+        rows,
+        count,
+        kind: group_kind,
+        key: group_key,
+    };
+    orientation_answers::of_oriented(orientation::orientation_of_group(group))
 }

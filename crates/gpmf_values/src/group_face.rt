@@ -1,4 +1,4 @@
-// What the rows of a group lead to.
+// What the rows of a group lead to. A group comes in parts: the C interface.
 ghost use Rattle.std.specs.Prelude.{◌≡◌};
 ghost use Rattle.tagged.specs.Tagged.{tagged_of, one_number};
 ghost use Rattle.scaling.specs.Quaternion.{negated16, scaled_by};
@@ -28,7 +28,14 @@ pub extern "C" fn gpmf_tagged_item(
 ) -> ItemAnswer
     ensures { result ≡ of_tagged (tagged_of s.now rows.now count group_kind group_key tag key) }
 {
-    answers::of_tagged(tagged::tagged_item(s, rows, count, group_kind, group_key, tag, key))
+    let group = tagged::Group {
+        payload: s,
+        rows,
+        count,
+        kind: group_kind,
+        key: group_key,
+    };
+    answers::of_tagged(group.tagged(tag, key))
 }
 
 // Whether a header is that of one number of a letter, but for its key.
@@ -67,9 +74,14 @@ pub extern "C" fn gpmf_scaled_quaternion(
 ) -> QuaternionAnswer
     ensures { result ≡ of_scaled_row (quaternion_of s.now rows.now count group_kind group_key row) }
 {
-    orientation_answers::of_scaled_row(quaternions::scaled_quaternion(
-        s, rows, count, group_kind, group_key, row,
-    ))
+    let group = tagged::Group {
+        payload: s,
+        rows,
+        count,
+        kind: group_kind,
+        key: group_key,
+    };
+    orientation_answers::of_scaled_row(quaternions::scaled_quaternion(group, row))
 }
 
 // The stamp of a group in microseconds.
@@ -83,7 +95,14 @@ pub extern "C" fn gpmf_stamp_us(
 ) -> WholeAnswer
     ensures { result ≡ of_stamp (stamp_of s.now rows.now count group_kind group_key) }
 {
-    answers::of_stamp(stamps::stamp_us(s, rows, count, group_kind, group_key))
+    let group = tagged::Group {
+        payload: s,
+        rows,
+        count,
+        kind: group_kind,
+        key: group_key,
+    };
+    answers::of_stamp(stamps::stamp_us(group))
 }
 
 // Milliseconds for a reading, over a list of packets.

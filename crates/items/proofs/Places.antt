@@ -10,7 +10,12 @@ use lib.Dec.{ltb}
 use lib.ListN.{length, take, drop, get_or, length-take, length-drop}
 use lib.Seq.{take-take, get_or-drop}
 use Rattle.klv.specs.declared.KLV.{KLV}
-use Rattle.klv.specs.declared.Header.TheVariants.{Item, Short, Past}
+use Rattle.std.specs.Prelude.{Option, Some, None, Result, Ok, Err}
+use Rattle.foundation.specs.declared.refusal.Refusal.{Refusal}
+use Rattle.foundation.specs.Refusals.{refused_at}
+use Rattle.std.specs.Option.{ok_or}
+use Rattle.klv.specs.declared.Broken.{Broken}
+use Rattle.klv.specs.declared.Broken.TheVariants.{Short, Past}
 use Rattle.klv.specs.Item.{data_len, First, item, first_item, payload_at, next_at}
 use Rattle.klv.specs.Header.{header_at}
 use Rattle.klv.specs.OneText.{type_text}
@@ -19,21 +24,23 @@ use Rattle.klv.proofs.Place.{at_item}
 use Rattle.klv.proofs.Place as Place
 use Rattle.texts.specs.Kept.{kept}
 use Rattle.texts.proofs.Kept.{kept_front, kept_length}
-use Rattle.items.specs.declared.TypeText.{TypeText}
-use Rattle.items.specs.declared.TypeText.TheVariants as text
-use Rattle.items.specs.declared.Found.{Found}
-use Rattle.items.specs.declared.Found.TheVariants as place
+use Rattle.items.specs.declared.Span.{Span}
+use Rattle.items.specs.declared.Item.{Item}
 use Rattle.items.specs.At as At
 use Rattle.items.specs.At.{Named, named, bad, type_of, type_named_at, type_for, found, stopped, over_if, whole_if, found_by, found_at}
-use Rattle.items.specs.Parts.{between, IsPart, text_at, text_for, type_told, TypeInside, Begins, TypeIs, places_of, item_told, ItemInside, ItemIs}
+use Rattle.items.specs.Parts.{between, IsPart, text_at, text_for, type_told, TypeInside, Begins, TypeIs, places_of, ItemIs}
 
 -- ---- the TYPE text at a place
+
+-- the header that was read is the one at the place asked
+pub heard : (s : List ℕ) {at place : ℕ} {r x : Result KLV Broken} → at ≡ place → r ≡ header_at s at → r ≡ x → header_at s place ≡ x
+heard s here read told = ap (header_at s) (sym here) ∙ sym read ∙ told
 
 none_named : (s : List ℕ) → IsPart 0 0 s
 none_named s = record { order = omega arith; inside = omega arith }
 
 module _ (s : List ℕ) (at : ℕ) where
-  pub type_none : at ≡ 4294967295 → TypeIs s (type_named_at s at) (text_at at) (text.At 0 0)
+  pub type_none : at ≡ 4294967295 → TypeIs s (type_named_at s at) (text_at at) (Some (record { start = 0; end = 0 }))
   unfolding type_named_at
   type_none e =
       let none = eq-eqb at 4294967295 e in
@@ -44,22 +51,20 @@ module _ (s : List ℕ) (at : ℕ) where
     unfolding type_named_at
     asked = simp (ne_eqb at 4294967295 n)
 
-    pub type_by : (r : TypeText) → TypeIs s (type_of (first_item (drop at s))) (at + 8) r → TypeIs s (type_named_at s at) (text_at at) r
+    pub type_by : (r : Option Span) → TypeIs s (type_of (first_item (drop at s))) (at + 8) r → TypeIs s (type_named_at s at) (text_at at) r
     type_by r t =
         let behind : at + 8 ≡ text_at at = sym (simp (ne_eqb at 4294967295 n)) in
         record { told = t.told ∙ sym asked; inside = t.inside; begins = subst (λ (k : ℕ). Begins k r) behind t.begins }
 
-    pub type_short : header_at s at ≡ Short → TypeIs s (type_named_at s at) (text_at at) text.Bad
-    type_short e = record { told = sym (asked ∙ ap type_of (Place.first_short s at e)); inside = tt; begins = tt }
-
-    pub type_past : header_at s at ≡ Past → TypeIs s (type_named_at s at) (text_at at) text.Bad
-    type_past e = record { told = sym (asked ∙ ap type_of (Place.first_past s at e)); inside = tt; begins = tt }
+    pub type_broken : (e : Broken) → header_at s at ≡ Err e → TypeIs s (type_named_at s at) (text_at at) None
+    type_broken Short e = record { told = sym (asked ∙ ap type_of (Place.first_short s at e)); inside = tt; begins = tt }
+    type_broken Past e = record { told = sym (asked ∙ ap type_of (Place.first_past s at e)); inside = tt; begins = tt }
 
 both : (a : Bool) → (a && false) ≡ false
 both true = refl
 both false = refl
 
-module _ (s : List ℕ) (at : ℕ) (h : KLV) (is_item : header_at s at ≡ Item h) where
+module _ (s : List ℕ) (at : ℕ) (h : KLV) (is_item : header_at s at ≡ Ok h) where
   abbrev payload : List ℕ
   payload = payload_at s at h
 
@@ -72,15 +77,15 @@ module _ (s : List ℕ) (at : ℕ) (h : KLV) (is_item : header_at s at ≡ Item 
   pub fits : at + 8 + data_len h ≤ length s
   fits = (at_item s at h is_item).fits
 
-  pub type_empty : (len : ℕ) → len ≡ data_len h → len ≡ 0 → TypeIs s (type_of (first_item (drop at s))) (at + 8) text.Bad
+  pub type_empty : (len : ℕ) → len ≡ data_len h → len ≡ 0 → TypeIs s (type_of (first_item (drop at s))) (at + 8) None
   type_empty len e z = record { told = sym (ap type_of first ∙ simp (le-ltb 0 (length payload) (omega (arith, long)), both)); inside = tt; begins = tt }
 
-  pub type_other : (t : Bool) → t ≡ type_text h → not t ≡ true → TypeIs s (type_of (first_item (drop at s))) (at + 8) text.Bad
+  pub type_other : (t : Bool) → t ≡ type_text h → not t ≡ true → TypeIs s (type_of (first_item (drop at s))) (at + 8) None
   type_other t e n = record { told = sym (ap type_of first ∙ simp (sym e ∙ not-true t n)); inside = tt; begins = tt }
 
   pub type_is : (len t-start k : ℕ) (t : Bool) → len ≡ data_len h → (len ≡ 0 → ⊥) → t ≡ type_text h → not t ≡ false → t-start ≡ at + 8
       → k ≡ length (kept (take (t-start + len - t-start) (drop t-start s)))
-      → TypeIs s (type_of (first_item (drop at s))) (at + 8) (text.At t-start (t-start + k))
+      → TypeIs s (type_of (first_item (drop at s))) (at + 8) (Some (record { start = t-start; end = t-start + k }))
   type_is len t-start k t e n et f es ek =
       let size : t-start + len - t-start ≡ data_len h = omega arith in
       let part : take (t-start + len - t-start) (drop t-start s) ≡ payload = (λ i. take (size i) (drop (es i) s)) in
@@ -98,39 +103,46 @@ module _ (s : List ℕ) (at : ℕ) (h : KLV) (is_item : header_at s at ≡ Item 
 
 -- ---- the TYPE text that an item asks for
 module _ (letter : ℕ) (s : List ℕ) (at : ℕ) where
-  pub type_asked : (r : TypeText) → letter ≡ code "?" → TypeIs s (type_named_at s at) (text_at at) r → TypeIs s (type_for letter s at) (text_for letter at) r
+  pub type_asked : (r : Option Span) → letter ≡ code "?" → TypeIs s (type_named_at s at) (text_at at) r → TypeIs s (type_for letter s at) (text_for letter at) r
   type_asked r e t = rw (eq-eqb letter (code "?") e) t
 
-  pub type_unasked : (letter ≡ code "?" → ⊥) → TypeIs s (type_for letter s at) (text_for letter at) (text.At 0 0)
+  pub type_unasked : (letter ≡ code "?" → ⊥) → TypeIs s (type_for letter s at) (text_for letter at) (Some (record { start = 0; end = 0 }))
   type_unasked n =
       let other = ne_eqb letter (code "?") n in
       record { told = sym (simp other); inside = none_named s; begins = sym (simp other) }
 
 -- ---- what was found
 
-refused : (s : List ℕ) (f : At.Found) (at type number k : ℕ) → f ≡ stopped number k → ItemIs s f at type (place.Refused number k)
-refused s f at type number k e = record { is = sym (ap (λ (x : At.Found). places_of x at type) e); told = sym e; inside = tt }
+refused : (s : List ℕ) (f : At.Found) (at type number k : ℕ) → f ≡ stopped number k → (r : Refusal) → r ≡ refused_at number k → ItemIs s f at type (Err r)
+refused s f at type number k e r er =
+    let told : stopped r.number r.place ≡ f = (λ i. stopped (er i).number (er i).place) ∙ sym e in
+    record { is = ap Err er ∙ sym (ap (λ (x : At.Found). places_of x at type) e); told = told; inside = tt }
 
 -- a TYPE place that names no text, and one that does
-module _ (s : List ℕ) (n : Named) (from : ℕ) (r : TypeText) (is_type : TypeIs s n from r) where
-  is_bad : r ≡ text.Bad → n ≡ bad
+module _ (s : List ℕ) (n : Named) (from : ℕ) (r : Option Span) (is_type : TypeIs s n from r) where
+  is_bad : r ≡ None → n ≡ bad
   is_bad e = sym is_type.told ∙ ap (type_told s) e
 
-  pub over_bad : (at type : ℕ) → r ≡ text.Bad → ItemIs s (over_if n at) at type (place.Refused 12 at)
+  pub over_bad : (at type : ℕ) → r ≡ None → (q : Refusal) → q ≡ refused_at 12 at → ItemIs s (over_if n at) at type (Err q)
   over_bad at type e = refused s (over_if n at) at type 12 at (ap (λ (x : Named). over_if x at) (is_bad e))
 
-  module _ (start end : ℕ) (e : r ≡ text.At start end) where
-    is_named : n ≡ named (between start end s)
+  module _ (x : Span) (e : r ≡ Some x) where
+    is_named : n ≡ named (between x.start x.end s)
     is_named = sym is_type.told ∙ ap (type_told s) e
 
-    is_part : IsPart start end s
+    is_part : IsPart x.start x.end s
     is_part = subst (TypeInside s) e is_type.inside
 
-    is_from : start ≡ from
+    is_from : x.start ≡ from
     is_from = subst (Begins from) e is_type.begins
 
-    pub over_named : (at type : ℕ) → ItemIs s (over_if n at) at type (place.Refused 2 at)
+    pub over_named : (at type : ℕ) → (q : Refusal) → q ≡ refused_at 2 at → ItemIs s (over_if n at) at type (Err q)
     over_named at type = refused s (over_if n at) at type 2 at (ap (λ (x : Named). over_if x at) is_named)
+
+-- where a refusal stands for no TYPE text, there is one where none is refused
+pub some_of : {E : Type 0} {x : Span} (r : Option Span) (e : E) → ok_or r e ≡ Ok x → r ≡ Some x
+some_of (Some y) e is = cc
+some_of None e is = cc
 
 -- a part ends its own length behind its start
 part_ends : (start end : ℕ) (s : List ℕ) → IsPart start end s → end ≡ start + length (between start end s)
@@ -145,15 +157,15 @@ no_payload : (h : KLV) (p rest s : List ℕ) (at type : ℕ) → length p ≡ 0 
 no_payload h [] rest s at type e = refl
 no_payload h (b ∷ p) rest s at type e = absurd (omega arith)
 
-module _ (s : List ℕ) (at type : ℕ) (h : KLV) (is_item : header_at s at ≡ Item h) (len : ℕ) (is-len : len ≡ data_len h) where
+module _ (s : List ℕ) (at type : ℕ) (h : KLV) (is_item : header_at s at ≡ Ok h) (len : ℕ) (is-len : len ≡ data_len h) where
   by_first_item : found_by (first_item (drop at s)) s at type ≡ found_by (item h (payload_at s at h) (drop (next_at at h) s)) s at type
   by_first_item = ap (λ (x : First). found_by x s at type) (first s at h is_item)
 
-  pub whole_empty : len ≡ 0 → ItemIs s (found_by (first_item (drop at s)) s at type) at type (place.Refused 12 at)
+  pub whole_empty : len ≡ 0 → (q : Refusal) → q ≡ refused_at 12 at → ItemIs s (found_by (first_item (drop at s)) s at type) at type (Err q)
   whole_empty e =
       refused s (found_by (first_item (drop at s)) s at type) at type 12 at (by_first_item ∙ no_payload h (payload_at s at h) (drop (next_at at h) s) s at type (omega (arith, long s at h is_item)))
 
-  module _ (n : len ≡ 0 → ⊥) (r : TypeText) (is_type : TypeIs s (type_for h.data_type s type) (text_for h.data_type type) r) where
+  module _ (n : len ≡ 0 → ⊥) (r : Option Span) (is_type : TypeIs s (type_for h.data_type s type) (text_for h.data_type type) r) where
     abbrev from : ℕ
     from = text_for h.data_type type
 
@@ -163,31 +175,33 @@ module _ (s : List ℕ) (at type : ℕ) (h : KLV) (is_item : header_at s at ≡ 
         ∙ by_payload h (payload_at s at h) (drop (next_at at h) s) s at type (λ z. n (omega (arith, long s at h is_item)))
         ∙ ap (λ (y : Named). whole_if y h (payload_at s at h) at) e
 
-    pub whole_bad : r ≡ text.Bad → ItemIs s (found_by (first_item (drop at s)) s at type) at type (place.Refused 12 at)
+    pub whole_bad : r ≡ None → (q : Refusal) → q ≡ refused_at 12 at → ItemIs s (found_by (first_item (drop at s)) s at type) at type (Err q)
     whole_bad e =
         refused s (found_by (first_item (drop at s)) s at type) at type 12 at (by_type bad (is_bad s (type_for h.data_type s type) from r is_type e))
 
-    pub whole_found : (start end : ℕ) → r ≡ text.At start end → ItemIs s (found_by (first_item (drop at s)) s at type) at type (place.Item h (at + 8) (at + 8 + len) start end)
-    whole_found start end e =
+    pub whole_found : (x : Span) → r ≡ Some x
+        → ItemIs s (found_by (first_item (drop at s)) s at type) at type (Ok (record { klv = h; payload = record { start = at + 8; end = at + 8 + len }; type_text = x }))
+    whole_found x e =
         let size : data_len h ≡ at + 8 + len - (at + 8) = omega arith in
         let part : IsPart (at + 8) (at + 8 + len) s = record { order = omega arith; inside = omega (arith, fits s at h is_item) } in
-        let its : IsPart start end s = is_part s (type_for h.data_type s type) from r is_type start end e in
-        let begins : start ≡ from = is_from s (type_for h.data_type s type) from r is_type start end e in
-        let ends : end ≡ from + length (between start end s) = part_ends start end s its ∙ ap (λ (k : ℕ). k + length (between start end s)) begins in
-        let there : found_by (first_item (drop at s)) s at type ≡ found h (between (at + 8) (at + 8 + len) s) (between start end s) = by_type (named (between start end s)) (is_named s (type_for h.data_type s type) from r is_type start end e) ∙ ap (λ (k : ℕ). found h (take k (drop (at + 8) s)) (between start end s)) size in
+        let its : IsPart x.start x.end s = is_part s (type_for h.data_type s type) from r is_type x e in
+        let begins : x.start ≡ from = is_from s (type_for h.data_type s type) from r is_type x e in
+        let text : List ℕ = between x.start x.end s in
+        let ends : x.end ≡ from + length text = part_ends x.start x.end s its ∙ ap (λ (k : ℕ). k + length text) begins in
+        let there : found_by (first_item (drop at s)) s at type ≡ found h (between (at + 8) (at + 8 + len) s) text = by_type (named text) (is_named s (type_for h.data_type s type) from r is_type x e) ∙ ap (λ (k : ℕ). found h (take k (drop (at + 8) s)) text) size in
         record {
-          is = (λ i. place.Item h (at + 8) (part_ends (at + 8) (at + 8 + len) s part i) (begins i) (ends i)) ∙ sym (ap (λ (x : At.Found). places_of x at type) there);
+          is = (λ i. Ok (record { klv = h; payload = record { start = at + 8; end = part_ends (at + 8) (at + 8 + len) s part i }; type_text = record { start = begins i; end = ends i } })) ∙ sym (ap (λ (x : At.Found). places_of x at type) there);
           told = sym there;
           inside = (part, its);
         }
 
 -- ---- the item at a place
 module _ (s : List ℕ) (at type : ℕ) where
-  pub at_limit : 1048576 < length s → ItemIs s (found_at s at type) at type (place.Refused 1 0)
+  pub at_limit : 1048576 < length s → (q : Refusal) → q ≡ refused_at 1 0 → ItemIs s (found_at s at type) at type (Err q)
   unfolding found_at
   at_limit h = refused s (found_at s at type) at type 1 0 (simp (lt-ltb 1048576 (length s) h))
 
-  pub past_room : header_at s at ≡ Past → at + 8 ≤ length s
+  pub past_room : header_at s at ≡ Err Past → at + 8 ≤ length s
   past_room e =
       let k = Place.first_past s at e in
       by_first_lem (drop at s) (at + 8 ≤ length s)
@@ -200,25 +214,23 @@ module _ (s : List ℕ) (at type : ℕ) where
     unfolding found_at
     within = simp (le-ltb 1048576 (length s) h)
 
-    pub at_short : header_at s at ≡ Short → ItemIs s (found_at s at type) at type (place.Refused 12 at)
+    pub at_short : header_at s at ≡ Err Short → (q : Refusal) → q ≡ refused_at 12 at → ItemIs s (found_at s at type) at type (Err q)
     at_short e = refused s (found_at s at type) at type 12 at (within ∙ ap (λ (x : First). found_by x s at type) (Place.first_short s at e))
 
-    pub at_whole : (r : Found) → ItemIs s (found_by (first_item (drop at s)) s at type) at type r → ItemIs s (found_at s at type) at type r
+    pub at_whole : (r : Result Item Refusal) → ItemIs s (found_by (first_item (drop at s)) s at type) at type r → ItemIs s (found_at s at type) at type r
     at_whole r = subst (λ (f : At.Found). ItemIs s f at type r) (sym within)
 
-    pub at_over : (r : Found) → header_at s at ≡ Past → ItemIs s (over_if (type_for (get_or s (at + 4) 0) s type) at) at type r → ItemIs s (found_at s at type) at type r
+    pub at_over : (r : Result Item Refusal) → header_at s at ≡ Err Past → ItemIs s (over_if (type_for (get_or s (at + 4) 0) s type) at) at type r → ItemIs s (found_at s at type) at type r
     at_over r e =
         subst (λ (f : At.Found). ItemIs s f at type r)
         (sym (within ∙ ap (λ (x : First). found_by x s at type) (Place.first_past s at e) ∙ ap (λ (l : ℕ). over_if (type_for l s type) at) (get_or-drop at s 4 0)))
 
 -- ---- for callers: what is answered of the places is answered of what was found
-module _ {s : List ℕ} {f : At.Found} {at type : ℕ} {r : Found} (is_item : ItemIs s f at type r) where
-  pub by_refusal : {A : Type 0} (answer : At.Found → A) {number k : ℕ} → r ≡ place.Refused number k → answer (stopped number k) ≡ answer f
-  by_refusal answer e = ap answer (sym (ap (item_told s) e) ∙ is_item.told)
+module _ {s : List ℕ} {f : At.Found} {at type : ℕ} where
+  pub by_refusal : {r : Refusal} → ItemIs s f at type (Err r) → {A : Type 0} (answer : At.Found → A) → answer (stopped r.number r.place) ≡ answer f
+  by_refusal is_item answer = ap answer is_item.told
 
-  module _ {h : KLV} {start end from to : ℕ} (e : r ≡ place.Item h start end from to) where
-    pub item_parts : IsPart start end s × IsPart from to s
-    item_parts = subst (ItemInside s) e is_item.inside
-
-    pub by_item : {A : Type 0} (answer : At.Found → A) {x : A} → x ≡ answer (found h (between start end s) (between from to s)) → x ≡ answer f
-    by_item answer is = is ∙ ap answer (sym (ap (item_told s) e) ∙ is_item.told)
+  pub by_item : {item : Item} → ItemIs s f at type (Ok item) → {A : Type 0} (answer : At.Found → A) {payload text : List ℕ}
+      → payload ≡ between item.payload.start item.payload.end s → text ≡ between item.type_text.start item.type_text.end s
+      → {x : A} → x ≡ answer (found item.klv payload text) → x ≡ answer f
+  by_item {item = it} is_item answer is-payload is-text is = is ∙ (λ i. answer (found it.klv (is-payload i) (is-text i))) ∙ ap answer is_item.told

@@ -6,7 +6,8 @@ pub mod names;
 pub mod tags;
 
 ghost use Rattle.std.specs.Prelude.{◌≡◌};
-ghost use Rattle.keys.specs.Keys.{tags, tag_of, groups, group_of};
+ghost use Rattle.keys.specs.Table.{found};
+ghost use Rattle.keys.specs.Keys.{tag_of, group_of};
 
 use names::*;
 
@@ -17,6 +18,7 @@ struct Known {
     id: u32,
 }
 
+// The tags as document 01 lists them.
 const TAGS: [Known; 26] = [
     // Data
     Known { key: GYRO, id: 1 },
@@ -56,6 +58,7 @@ const TAGS: [Known; 26] = [
     Known { key: ORIO, id: 10 },
 ];
 
+// The groups in the order in which the Rust names them.
 const GROUPS: [Known; 16] = [
     Known { key: GYRO, id: 1 },
     Known { key: ACCL, id: 2 },
@@ -75,32 +78,23 @@ const GROUPS: [Known; 16] = [
     Known { key: ISOE, id: 16 },
 ];
 
-// The tags as document 01 lists them.
-fn tag_table() -> [Known; 26]
-    ensures { result ≡ tags }
+// The number beside a key in a table, and 0 for a key that the table does not have.
+fn number_in(table: &[Known], key: u32) -> u32
+    ensures { result ≡ found table.now key }
 {
-    TAGS
-}
-
-// The groups in the order in which the Rust names them.
-fn group_table() -> [Known; 16]
-    ensures { result ≡ groups }
-{
-    GROUPS
+    for known in table {
+        if known.key == key {
+            return known.id;
+        }
+    }
+    0
 }
 
 // The tag number of a key, and 0 for a key that has none.
 pub fn tag_id(key: u32) -> u32
     ensures { result ≡ tag_of key }
 {
-    let table = tag_table();
-    for i in 0..26 {
-        let known = table[i];
-        if known.key == key {
-            return known.id;
-        }
-    }
-    0
+    number_in(&TAGS, key)
 }
 
 // A group: its number, 0 where its key has none, and its key, which is kept always.
@@ -115,15 +109,6 @@ pub struct GroupId {
 pub fn group_from_key(key: u32) -> GroupId
     ensures { result ≡ group_of key }
 {
-    let table = group_table();
-    for i in 0..16 {
-        let known = table[i];
-        if known.key == key {
-            return GroupId {
-                number: known.id,
-                key,
-            };
-        }
-    }
-    GroupId { number: 0, key }
+    let number = number_in(&GROUPS, key);
+    GroupId { number, key }
 }

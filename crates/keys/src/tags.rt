@@ -1,4 +1,4 @@
-// The numbers of the tags, for those who look items up.
+// The numbers of the tags, for those who look items up: numbers, as rows have them and the C interface takes them.
 pub const UNTAGGED: u32 = 0;
 
 pub const DATA: u32 = 1;

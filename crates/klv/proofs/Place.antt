@@ -8,7 +8,8 @@ use lib.ListN.{length, take, drop, length-drop}
 use lib.Seq.{drop-drop}
 use Rattle.foundation.proofs.Parts.{drop_take}
 use Rattle.klv.specs.declared.KLV.{KLV}
-use Rattle.klv.specs.declared.Header.TheVariants.{Item, Short, Past}
+use Rattle.std.specs.Prelude.{Ok, Err}
+use Rattle.klv.specs.declared.Broken.TheVariants.{Short, Past}
 use Rattle.klv.specs.Item.{data_len, aligned, First, few, past, item, first_item, payload_at, end_at, next_at}
 use Rattle.klv.specs.Header.{told, header_at}
 use Rattle.klv.specs.Level.{left, broken, node, items_of}
@@ -27,26 +28,26 @@ module _ (s : List ℕ) (at : ℕ) where
     pub level : items_of (drop at s) ≡ node h (payload_at s at h) (items_of (drop (at + 8) (take (end_at at h) s))) (items_of (drop (next_at at h) s))
 
   -- what stands first from the place on, in each case
-  pub first_short : header_at s at ≡ Short → first_item (drop at s) ≡ few
+  pub first_short : header_at s at ≡ Err Short → first_item (drop at s) ≡ few
   first_short e = go (first_item (drop at s)) refl e
     where
-      go : (x : First) → first_item (drop at s) ≡ x → told x ≡ Short → first_item (drop at s) ≡ few
+      go : (x : First) → first_item (drop at s) ≡ x → told x ≡ Err Short → first_item (drop at s) ≡ few
       go few k e' = k
       go past k e' = let o : ◌≡◌ {A = ℕ} 0 1 = cc in absurd (omega arith)
       go (item h p r) k e' = let o : ◌≡◌ {A = ℕ} 0 1 = cc in absurd (omega arith)
 
-  pub first_past : header_at s at ≡ Past → first_item (drop at s) ≡ past
+  pub first_past : header_at s at ≡ Err Past → first_item (drop at s) ≡ past
   first_past e = go (first_item (drop at s)) refl e
     where
-      go : (x : First) → first_item (drop at s) ≡ x → told x ≡ Past → first_item (drop at s) ≡ past
+      go : (x : First) → first_item (drop at s) ≡ x → told x ≡ Err Past → first_item (drop at s) ≡ past
       go few k e' = let o : ◌≡◌ {A = ℕ} 0 1 = cc in absurd (omega arith)
       go past k e' = k
       go (item h p r) k e' = let o : ◌≡◌ {A = ℕ} 0 1 = cc in absurd (omega arith)
 
-  pub first_item_lem : (h : KLV) → header_at s at ≡ Item h → first_item (drop at s) ≡ item h (payload_at s at h) (drop (next_at at h) s)
+  pub first_item_lem : (h : KLV) → header_at s at ≡ Ok h → first_item (drop at s) ≡ item h (payload_at s at h) (drop (next_at at h) s)
   first_item_lem h e = go (first_item (drop at s)) refl e
     where
-      go : (x : First) → first_item (drop at s) ≡ x → told x ≡ Item h → first_item (drop at s) ≡ item h (payload_at s at h) (drop (next_at at h) s)
+      go : (x : First) → first_item (drop at s) ≡ x → told x ≡ Ok h → first_item (drop at s) ≡ item h (payload_at s at h) (drop (next_at at h) s)
       go few k e' = let o : ◌≡◌ {A = ℕ} 0 1 = cc in absurd (omega arith)
       go past k e' = let o : ◌≡◌ {A = ℕ} 0 1 = cc in absurd (omega arith)
       go (item g p r) k e' =
@@ -58,7 +59,7 @@ module _ (s : List ℕ) (at : ℕ) where
           k ∙ (λ i. item (same i) (payload i) (rest i))
 
   -- and so the level from there on
-  pub at_short : header_at s at ≡ Short → IsShort
+  pub at_short : header_at s at ≡ Err Short → IsShort
   at_short e =
       let k = first_short e in
       record {
@@ -66,10 +67,10 @@ module _ (s : List ℕ) (at : ℕ) where
         level = items_first (drop at s) few k ∙ ap left (length-drop at s);
       }
 
-  pub at_past : header_at s at ≡ Past → items_of (drop at s) ≡ broken
+  pub at_past : header_at s at ≡ Err Past → items_of (drop at s) ≡ broken
   at_past e = items_first (drop at s) past (first_past e)
 
-  pub at_item : (h : KLV) → header_at s at ≡ Item h → IsItem h
+  pub at_item : (h : KLV) → header_at s at ≡ Ok h → IsItem h
   at_item h e =
       let k = first_item_lem h e in
       let w = of_item (drop at s) h (payload_at s at h) (drop (next_at at h) s) k in

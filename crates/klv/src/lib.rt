@@ -11,7 +11,7 @@ use foundation::big_endian;
 
 // An item's header: its key as one number, its type byte, and the size and the repeat of its samples.
 #[repr(C)]
-#[derive(Clone, Copy)]
+#[derive(Clone, Copy, PartialEq, Eq, Debug)]
 pub struct KLV {
     pub key: u32,
     pub data_type: u8,
@@ -19,18 +19,18 @@ pub struct KLV {
     pub repeat: u16,
 }
 
-// A size as a number of bytes.
+// A size as a number of bytes. It stays beside usize::from: a public function that docs/PROMISES.md promises.
 pub fn wide(size: u8) -> usize
     ensures { (result ≡ size) × (result < 256) }
 {
-    size as usize
+    usize::from(size)
 }
 
-// A repeat as a number of samples.
+// A repeat as a number of samples. It stays, as `wide` does.
 pub fn wider(repeat: u16) -> usize
     ensures { (result ≡ repeat) × (result < 65536) }
 {
-    repeat as usize
+    usize::from(repeat)
 }
 
 impl KLV {
@@ -45,7 +45,7 @@ impl KLV {
     pub fn aligned_data_len(self) -> usize
         ensures { (result ≡ aligned (data_len self)) × (result < 16777220) }
     {
-        (self.data_len() + (Cursor::ALIGNMENT - 1)) / Cursor::ALIGNMENT * Cursor::ALIGNMENT
+        self.data_len().next_multiple_of(Cursor::ALIGNMENT)
     }
 }
 
@@ -60,36 +60,20 @@ impl KLV {
     pub fn is_one_text(self) -> bool
         ensures { result ≡ one_text self }
     {
-        if self.data_type == b'F' {
-            return true;
-        }
-        if self.data_type == b'c' {
-            if self.repeat == 1 {
-                return true;
-            }
-            if self.size == 1 {
-                return true;
-            }
-        }
-        false
+        self.data_type == b'F' || self.data_type == b'c' && (self.repeat == 1 || self.size == 1)
     }
 
     // A TYPE item whose value is one text.
     pub fn is_type_text(self) -> bool
         ensures { result ≡ type_text self }
     {
-        if self.key == TYPE {
-            return self.is_one_text();
-        }
-        false
+        self.key == TYPE && self.is_one_text()
     }
 }
 
-// What stands at a place.
-#[derive(Clone, Copy)]
-pub enum Header {
-    // an item: its header, and all of its payload behind that
-    Item(KLV),
+// Why no item stands at a place.
+#[derive(Clone, Copy, PartialEq, Eq, Debug)]
+pub enum Broken {
     // fewer than eight bytes
     Short,
     // a header whose payload runs past the end
@@ -110,17 +94,17 @@ fn read_header(s: &[u8]) -> KLV
 }
 
 // What stands first in some bytes.
-fn first_header(s: &[u8]) -> Header
+fn first_header(s: &[u8]) -> Result<KLV, Broken>
     ensures { result ≡ header_of_first s.now }
 {
     if s.len() < Cursor::HEADER {
-        return Header::Short;
+        return Err(Broken::Short);
     }
     let klv = read_header(s);
     if klv.data_len() <= s.len() - Cursor::HEADER {
-        Header::Item(klv)
+        Ok(klv)
     } else {
-        Header::Past
+        Err(Broken::Past)
     }
 }
 
@@ -145,12 +129,12 @@ impl Cursor {
     }
 
     // What stands here in a level, given as the payload up to the level's end.
-    pub fn parse_header(self, s: &[u8]) -> Header
+    pub fn parse_header(self, s: &[u8]) -> Result<KLV, Broken>
         ensures { result ≡ header_at s.now self.at }
     {
         let at = self.at;
         if s.len() < at {
-            return Header::Short;
+            return Err(Broken::Short);
         }
         first_header(&s[at..])
     }

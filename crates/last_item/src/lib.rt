@@ -7,51 +7,42 @@ ghost use Rattle.klv.specs.Level.{items_of};
 ghost use Rattle.reading.specs.Last.{last_item, last_reading};
 ghost use Rattle.last_item.specs.LastItem.{told};
 
-use klv::{Cursor, Header, KLV, MOST_BYTES};
+use foundation::refusal::{Fault, Refusal};
+use klv::{Broken, Cursor, KLV, MOST_BYTES};
 
-// What the chain ends at.
-#[derive(Clone, Copy)]
-pub enum LastItem {
-    // no bytes, so no item
-    Nothing,
-    // the last item: the place of its header, and the header
-    Last { place: usize, klv: KLV },
-    // a refusal's number, and the place of the item or of the bytes left over
-    Stopped { number: u32, place: usize },
+// The last item that the chain meets: the place of its header, and the header.
+#[derive(Clone, Copy, PartialEq, Eq, Debug)]
+pub struct Last {
+    pub place: usize,
+    pub klv: KLV,
 }
 
-// The last item of the level from a place on, given as the payload up to the level's end.
-pub fn last_item(s: &[u8], at: usize) -> LastItem
+// The last item of the level from a place on, given as the payload up to the level's end; none where there is no byte.
+pub fn last_item(s: &[u8], at: usize) -> Result<Option<Last>, Refusal>
     ensures { result ≡ told (last_item (items_of (drop at s.now)) at) }
 {
     let mut place = at;
-    let mut last = LastItem::Nothing;
+    let mut last = None;
+    // no range: a step is the length of the item that is stepped over
     while place < s.len() {
         match Cursor::new(place).parse_header(s) {
-            Header::Short => {
-                return LastItem::Stopped { number: 3, place };
-            }
-            Header::Past => {
-                return LastItem::Stopped { number: 2, place };
-            }
-            Header::Item(klv) => {
-                last = LastItem::Last { place, klv };
+            Err(Broken::Short) => return Err(Fault::LeftOver.at(place)),
+            Err(Broken::Past) => return Err(Fault::PastEnd.at(place)),
+            Ok(klv) => {
+                last = Some(Last { place, klv });
                 place = place + Cursor::HEADER + klv.aligned_data_len();
             }
         }
     }
-    last
+    Ok(last)
 }
 
 // The last item of a payload.
-pub fn get_last_klv(payload: &[u8]) -> LastItem
+pub fn get_last_klv(payload: &[u8]) -> Result<Option<Last>, Refusal>
     ensures { result ≡ told (last_reading payload.now) }
 {
     if MOST_BYTES < payload.len() {
-        return LastItem::Stopped {
-            number: 1,
-            place: 0,
-        };
+        return Err(Fault::TooLong.at(0));
     }
     last_item(payload, 0)
 }

@@ -7,77 +7,56 @@ ghost use Rattle.text.specs.Lay.{over};
 ghost use Rattle.foundation.specs.Digits.{worth_of, are_digits};
 ghost use Rattle.line.specs.Read.{worth_in64, number_in, bytes_in, Decodes};
 
-// A number in a text, or that the text is no number of 64 bits.
-#[derive(Clone, Copy)]
-pub enum Number {
-    Is(u64),
-    NotOne,
-}
-
-// How many bytes were decoded, or why none.
-#[derive(Clone, Copy)]
-pub enum Decoded {
-    Bytes(usize),
+// Why a text of hex is not decoded.
+#[derive(Clone, Copy, PartialEq, Eq, Debug)]
+pub enum HexError {
     NoRoom,
     NotHex,
 }
 
-// The number in a text of decimal digits.
-pub fn decimal_number(s: &[u8]) -> Number
+// The number in a text of decimal digits, where it is one of 64 bits.
+pub fn decimal_number(s: &[u8]) -> Option<u64>
     ensures { result ≡ number_in 10 s.now }
 {
     number_in(s, 10)
 }
 
-// The number in a text of small hex digits.
-pub fn hex_number(s: &[u8]) -> Number
+// The same of small hex digits.
+pub fn hex_number(s: &[u8]) -> Option<u64>
     ensures { result ≡ number_in 16 s.now }
 {
     number_in(s, 16)
 }
 
-fn number_in(s: &[u8], base: u64) -> Number
+fn number_in(s: &[u8], base: u64) -> Option<u64>
     requires { (1 < base) × (base ≤ 16) }
     ensures { result ≡ number_in base s.now }
 {
     if s.len() == 0 {
-        return Number::NotOne;
+        return None;
     }
     if are_digits(s, base) {
         return worth(s, base);
     }
-    Number::NotOne
+    None
 }
 
 // What digits are worth together, if 64 bits hold it.
-fn worth(s: &[u8], base: u64) -> Number
+fn worth(s: &[u8], base: u64) -> Option<u64>
     requires { 1 < base }
     ensures { result ≡ worth_in64 base s.now }
 {
     let mut value: u64 = 0;
-    let mut i: usize = 0;
-    while i < s.len() {
-        let digit = digit_worth(s[i]);
-        if (u64::MAX - digit) / base < value {
-            return Number::NotOne;
-        }
-        value = value * base + digit;
-        i += 1;
+    for c in s {
+        value = value.checked_mul(base)?.checked_add(digit_worth(*c))?;
     }
-    Number::Is(value)
+    Some(value)
 }
 
 fn are_digits(s: &[u8], base: u64) -> bool
     ensures { result ≡ are_digits base s.now }
 {
-    let mut i: usize = 0;
-    while i < s.len() {
-        if base <= digit_worth(s[i]) {
-            return false;
-        }
-        i += 1;
-    }
-    true
+    s.iter().all(|c| digit_worth(*c) < base)
 }
 
 // What a digit is worth, as many as stand before it; 16 for a character that is none.
@@ -85,26 +64,25 @@ fn digit_worth(c: u8) -> u64
     ensures { (result ≡ worth_of c) × (result ≤ 16) }
 {
     let digits = b"0123456789abcdef";
-    let smaller = pieces::piece(digits, c, 0);
-    smaller.len() as u64
+    digits.iter().position(|digit| *digit == c).unwrap_or(16) as u64
 }
 
-// The bytes in a text of small hex digits, laid at the front of a lent buffer.
-pub fn unhex(s: &[u8], out: &mut [u8]) -> Decoded
+// How many bytes are in a text of small hex digits, which are laid at the front of a lent buffer.
+pub fn unhex(s: &[u8], out: &mut [u8]) -> Result<usize, HexError>
     ensures { Decodes s.now out.old result out.new }
 {
     if s.len() % 2 == 1 {
-        return Decoded::NotHex;
+        return Err(HexError::NotHex);
     }
     if are_digits(s, 16) {
         let count = s.len() / 2;
         if out.len() < count {
-            return Decoded::NoRoom;
+            return Err(HexError::NoRoom);
         }
         decode(s, out, count);
-        return Decoded::Bytes(count);
+        return Ok(count);
     }
-    Decoded::NotHex
+    Err(HexError::NotHex)
 }
 
 fn decode(s: &[u8], out: &mut [u8], count: usize)
@@ -113,10 +91,8 @@ fn decode(s: &[u8], out: &mut [u8], count: usize)
     requires count_in_bounds { count ≤ length out.old }
     ensures { out.new ≡ over out.old 0 (bytes_in s.now) }
 {
-    let mut i: usize = 0;
-    while i < count {
+    for i in 0..count {
         out[i] = byte_of(s[2 * i], s[2 * i + 1]);
-        i += 1;
     }
 }
 

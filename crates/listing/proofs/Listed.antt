@@ -11,7 +11,8 @@ use Rattle.reading.specs.Walk.{Outcome, accepted, refused, reading_of, room_of}
 use Rattle.reading.specs.Answer.{lent}
 use Rattle.reading.proofs.Bounds.{read_bound}
 use Rattle.walk.specs.declared.Metadata.{Metadata}
-use Rattle.walk.specs.declared.Metadata.TheVariants.{Rows, Refused}
+use Rattle.foundation.specs.declared.refusal.Refusal.{Refusal}
+use Rattle.std.specs.Prelude.{Result, Ok, Err}
 use Rattle.walk.specs.Metadata.{told, Read}
 use Rattle.listing_line.specs.Line.{answer_line}
 use Rattle.listing.specs.Listing.{record_line, record_lines, row_lines, Lists}
@@ -27,7 +28,7 @@ few_lines s room = go (reading_of false s room) refl
     go (accepted rs k) e = rw (length-map rs record_line) (read_bound false s room rs k e).records
     go (refused why place) e = omega arith
 
-module _ (s old : List ℕ) (answer : Metadata) (new : List ℕ) where
+module _ (s old : List ℕ) (answer : Result Metadata Refusal) (new : List ℕ) where
   abbrev room : ℕ
   room = room_of (length old)
 
@@ -42,23 +43,23 @@ module _ (s old : List ℕ) (answer : Metadata) (new : List ℕ) where
       record { is = all.is; leaves = all.leaves; rows = read.rows; short = omega (arith, all.short, few_lines s room) }
 
   -- ACCEPTED: a line for each row
-  module _ (count headers : ℕ) (read : Read outcome old answer new) (is : answer ≡ Rows count headers) where
-    same_lines : AreBytes s → length new ≡ length old → row_lines new count ≡ record_lines outcome
+  module _ (m : Metadata) (read : Read outcome old answer new) (is : answer ≡ Ok m) where
+    same_lines : AreBytes s → length new ≡ length old → row_lines new m.rows ≡ record_lines outcome
     same_lines bytes long = go outcome refl read.is read.rows
       where
-        go : (o : Outcome) → outcome ≡ o → answer ≡ told o → new ≡ lent o old → row_lines new count ≡ record_lines o
+        go : (o : Outcome) → outcome ≡ o → answer ≡ told o → new ≡ lent o old → row_lines new m.rows ≡ record_lines o
         go (accepted rs k) e a l =
-            let many : count ≡ length rs = cc in
+            let many : m.rows ≡ length rs = cc in
             ap (λ (n : ℕ). row_lines new n) many
             ∙ lines_of_records rs new (drop (length rs * row_width) old) l (rw long (read_bound false s room rs k e).records) (record_written false s room rs k bytes e)
         go (refused why place) e a l = let o : ◌≡◌ {A = ℕ} 0 1 = cc in absurd (omega arith)
 
     pub lists_rows : {out : List ℕ} {at first : ℕ} {between : List ℕ} {last : ℕ} {after : List ℕ} → AreBytes s → length new ≡ length old
-        → LaysLines (answer_line answer ∷ []) out at first between → LaysLines (row_lines new count) between first last after → Lists outcome old out at last new after
+        → LaysLines (answer_line answer ∷ []) out at first between → LaysLines (row_lines new m.rows) between first last after → Lists outcome old out at last new after
     lists_rows bytes long first rest = together read first (rw (same_lines bytes long) at rest)
 
   -- REFUSED: the first line alone
-  module _ (number place : ℕ) (read : Read outcome old answer new) (is : answer ≡ Refused number place) where
+  module _ (r : Refusal) (read : Read outcome old answer new) (is : answer ≡ Err r) where
     no_lines : record_lines outcome ≡ []
     no_lines = go outcome read.is
       where

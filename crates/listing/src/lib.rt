@@ -8,8 +8,7 @@ ghost use Rattle.rows.specs.Row.{row_at};
 ghost use Rattle.listing_line.specs.Lines.{LaysLines};
 ghost use Rattle.listing.specs.Listing.{line_at, row_lines, Lists};
 
-use metadata::Metadata;
-use rows::RowAt;
+use foundation::refusal::Fault;
 
 // Lays the listing of a payload; its rows go into the lent numbers.
 pub fn list(payload: &[u8], rows: &mut [u32], out: &mut [u8], at: usize) -> usize
@@ -18,36 +17,21 @@ pub fn list(payload: &[u8], rows: &mut [u32], out: &mut [u8], at: usize) -> usiz
     let answer = metadata::parse_metadata(payload, false, rows);
     let first = listing_line::put_answer(out, at, answer);
     match answer {
-        Metadata::Rows {
-            rows: count,
-            headers: _,
-        } => put_rows(out, first, rows, count),
-        Metadata::Refused {
-            number: _,
-            place: _,
-        } => first,
+        Ok(read) => put_rows(out, first, rows, read.rows),
+        Err(_) => first,
     }
 }
-
-// Where a caller claims more rows than the lent numbers have room for.
-const NO_ROOM: u32 = 5;
 
 // Lays the lines of the first `count` rows, or the refusal where the lent numbers have no room for so many.
 pub fn put_rows(out: &mut [u8], at: usize, rows: &[u32], count: usize) -> usize
     ensures { LaysLines (row_lines rows.now count) out.old at result out.new }
 {
     if rows::room(rows.len()) < count {
-        let refused = Metadata::Refused {
-            number: NO_ROOM,
-            place: 0,
-        };
-        return listing_line::put_answer(out, at, refused);
+        return listing_line::put_answer(out, at, Err(Fault::NoRoom.at(0)));
     }
     let mut end = at;
-    let mut n: usize = 0;
-    while n < count {
+    for n in 0..count {
         end = put_row_at(out, end, rows, n);
-        n += 1;
     }
     end
 }
@@ -57,7 +41,7 @@ fn put_row_at(out: &mut [u8], at: usize, rows: &[u32], n: usize) -> usize
     ensures { LaysLines (line_at (row_at rows.now n)) out.old at result out.new }
 {
     match rows::row_at(rows, n) {
-        RowAt::Is(row) => listing_line::put_line(out, at, row),
-        RowAt::Outside => at,
+        Some(row) => listing_line::put_line(out, at, row),
+        None => at,
     }
 }

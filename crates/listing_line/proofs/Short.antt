@@ -14,7 +14,9 @@ use Rattle.klv.specs.declared.KLV.{KLV}
 use Rattle.reading.specs.Record.{Group, callers, named}
 use Rattle.rows.specs.declared.Row.{Row}
 use Rattle.walk.specs.declared.Metadata.{Metadata}
-use Rattle.walk.specs.declared.Metadata.TheVariants.{Rows, Refused}
+use Rattle.foundation.specs.declared.refusal.Refusal.{Refusal}
+use Rattle.foundation.specs.Refusals.{refuse}
+use Rattle.std.specs.Prelude.{Result, Ok}
 use Rattle.numerals.specs.Numerals.{last_digits, decimal}
 use Rattle.numerals.proofs.Decimal.{length_one, length_more}
 use Rattle.numerals.proofs.Spelling.{length-last_digits}
@@ -71,11 +73,11 @@ unfolding row_line
 row_short r p s d = columns_short r.place (group_in r) (header_in r) r.depth p (omega arith) (omega arith) (omega arith) d
 
 -- the first line of an answer of 64-bit numbers
-module _ (a : Metadata) where
-  pub rows_short : (rows headers : ℕ) → a ≡ Rows rows headers → rows < 18446744073709551616 → headers < 18446744073709551616 → length (answer_line a) ≤ longest_line
+module _ (a : Result Metadata Refusal) where
+  pub rows_short : (rows headers : ℕ) → a ≡ Ok (record { rows = rows; headers = headers }) → rows < 18446744073709551616 → headers < 18446744073709551616 → length (answer_line a) ≤ longest_line
   unfolding answer_line
   rows_short rows headers e r h = rw e (simp length-append (omega (arith, decimal_short 19 rows (omega arith), decimal_short 19 headers (omega arith))))
 
-  pub refused_short : (number place : ℕ) → a ≡ Refused number place → number < 4294967296 → place < 18446744073709551616 → length (answer_line a) ≤ longest_line
+  pub refused_short : (number place : ℕ) → a ≡ refuse number place → number < 4294967296 → place < 18446744073709551616 → length (answer_line a) ≤ longest_line
   unfolding answer_line
   refused_short number place e n p = rw e (simp length-append (omega (arith, decimal_short 9 number (omega arith), decimal_short 19 place (omega arith))))

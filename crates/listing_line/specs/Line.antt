@@ -1,13 +1,13 @@
 -- A line of a listing, and how its columns are shown. Document 01, Cases, 12: "Columns: place, group (`-` for the
 -- caller's), key, type, size, repeat, depth, decimal."; "Refused: `refused 3 at 0` alone". Assumes nothing: these are
 -- definitions.
-use Rattle.std.specs.Prelude.{ℕ, ◌/◌, ◌%◌, ◌^◌, cond, List, [], ◌∷◌, ◌++◌, eqb}
+use Rattle.std.specs.Prelude.{ℕ, ◌/◌, ◌%◌, ◌^◌, cond, List, [], ◌∷◌, ◌++◌, Result, Ok, Err, eqb}
+use Rattle.foundation.specs.declared.refusal.Refusal.{Refusal}
 use Rattle.foundation.specs.Text.{characters}
 use Rattle.klv.specs.declared.KLV.{KLV}
 use Rattle.reading.specs.Record.{Group, callers, named}
 use Rattle.rows.specs.declared.Row.{Row}
 use Rattle.walk.specs.declared.Metadata.{Metadata}
-use Rattle.walk.specs.declared.Metadata.TheVariants.{Rows, Refused}
 use Rattle.numerals.specs.Numerals.{decimal}
 use Rattle.shown_key.specs.Key.{shown_key}
 
@@ -50,6 +50,6 @@ row_line r = columns r.place (group_in r) (header_in r) r.depth
 -- ---- of an answer
 
 -- THE FIRST LINE of an answer: "rows 1 headers 3", or "refused 3 at 0" (document 01, Cases, 12; document 02, No. 10)
-unfoldable pub answer_line : Metadata → List ℕ
-answer_line (Rows rows headers) = line_of (characters "rows" ∷ decimal rows ∷ characters "headers" ∷ decimal headers ∷ [])
-answer_line (Refused number place) = line_of (characters "refused" ∷ decimal number ∷ characters "at" ∷ decimal place ∷ [])
+unfoldable pub answer_line : Result Metadata Refusal → List ℕ
+answer_line (Ok m) = line_of (characters "rows" ∷ decimal m.rows ∷ characters "headers" ∷ decimal m.headers ∷ [])
+answer_line (Err r) = line_of (characters "refused" ∷ decimal r.number ∷ characters "at" ∷ decimal r.place ∷ [])

@@ -8,11 +8,12 @@ ghost use Rattle.std.specs.Prelude.{[], ◌∷◌};
 ghost use Rattle.listing_line.specs.Line.{answer_line, row_line};
 ghost use Rattle.listing_line.specs.Lines.{LaysLines};
 
+use foundation::refusal::Refusal;
 use rows::Row;
 use walk::Metadata;
 
 // Lays the first line of an answer.
-pub fn put_answer(out: &mut [u8], at: usize, answer: Metadata) -> usize
+pub fn put_answer(out: &mut [u8], at: usize, answer: Result<Metadata, Refusal>) -> usize
     ensures { LaysLines (answer_line answer ∷ []) out.old at result out.new }
 {
     let mut line = [0u8; 64];

@@ -5,18 +5,19 @@ ghost use Rattle.shown_key.specs.Key.{shown_key};
 ghost use Rattle.listing_line.specs.Line.{spaced, shown_group, group_in, answer_line, row_line};
 ghost use Rattle.listing_line.specs.Lines.{Joins, Makes};
 
+use foundation::refusal::Refusal;
 use rows::Row;
 use walk::Metadata;
 
 // The first line of an answer.
-pub(crate) fn make_answer(line: &mut [u8; 64], answer: Metadata) -> usize
+pub(crate) fn make_answer(line: &mut [u8; 64], answer: Result<Metadata, Refusal>) -> usize
     ensures { Makes (answer_line answer) result line.new }
 {
     match answer {
-        Metadata::Rows { rows, headers } => {
+        Ok(Metadata { rows, headers }) => {
             put_pairs(line, b"rows ", rows as u64, b"headers ", headers as u64)
         }
-        Metadata::Refused { number, place } => {
+        Err(Refusal { number, place }) => {
             put_pairs(line, b"refused ", number as u64, b"at ", place as u64)
         }
     }

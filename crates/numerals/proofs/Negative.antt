@@ -1,9 +1,9 @@
--- How far a number of 64 bits lies below zero, computed without leaving 64 bits. Assumes nothing.
-use Prim.Native.Nat.{ℕ, zero, suc, ◌+◌, ◌<◌, ◌^◌}
+-- A signed number in decimal, by how far it lies from zero; and how far a number of 64 bits lies below zero, computed
+-- without leaving 64 bits. Assumes nothing.
+use Prim.Native.Nat.{ℕ, zero, suc, ◌<◌, ◌^◌}
 use mathlib.Core.Path.{◌≡◌, refl, ap, ◌∙◌}
 use mathlib.Core.Bool.{true, false, true≢false}
 use mathlib.Core.List.{◌∷◌}
-use native.Mathlib.Numerals.{add-one}
 use native.Mathlib.Omega.{arith}
 use borrow.Author.Tests.{ltb-true}
 use lib.Dec.{T}
@@ -48,10 +48,10 @@ module _ (n : ℤ) (h : lt_z n (pos 0) ≡ true) (fit : SFits w64 n) where
   pub read_back : to_z w64 (of_z w64 turned) ≡ pos (mag n)
   read_back = to_z-of_z {w = w64} turned_fits ∙ turned_is
 
-pub signed_below : (n : ℤ) (r : ℕ) → lt_z n (pos 0) ≡ true → r ≡ mag n + 1 → signed_decimal n ≡ 45 ∷ decimal r
+pub signed_below : (n : ℤ) → lt_z n (pos 0) ≡ true → signed_decimal n ≡ 45 ∷ decimal (nat_abs n)
 unfolding signed_decimal
-signed_below (pos a) r h e = let l : a < 0 = ltb-true a 0 h in absurd (omega arith)
-signed_below (negsuc k) r h e = rw (e, add-one)
+signed_below (pos a) h = let l : a < 0 = ltb-true a 0 h in absurd (omega arith)
+signed_below (negsuc k) h = refl
 
 pub above_fits : (n : ℤ) → lt_z n (pos 0) ≡ false → SFits w64 n → T (non_neg n) × Fits w64 (nat_abs n)
 above_fits (pos a) h fit = (tt, omega (arith, fit.sfits))

@@ -1,9 +1,9 @@
 // Numbers laid into a lent buffer by their digits, as crate `text` lays bytes.
+// Buffer and place stay two parameters: the C interface (gpmf_put_decimal, gpmf_put_hex, gpmf_put_signed) has them so.
 
 #![tactic(auto)]
 
-ghost use Rattle.std.specs.Prelude.{◌≡◌, true, ◌∷◌, ◌+◌, ◌<◌, ◌≤◌, pos, length, get_or};
-ghost use Rattle.std.specs.Int.Signed.{lt_z, mag};
+ghost use Rattle.std.specs.Prelude.{◌≡◌, ◌∷◌, ◌+◌, ◌<◌, ◌≤◌, length, get_or};
 ghost use Rattle.foundation.specs.Digits.{digits};
 ghost use Rattle.text.specs.Lay.{over, Lays};
 ghost use Rattle.numerals.specs.Numerals.{last_digits, decimal, signed_decimal};
@@ -29,17 +29,9 @@ pub fn put_signed(out: &mut [u8], at: usize, n: i64) -> usize
     ensures { Lays (signed_decimal n) out.old at result out.new }
 {
     if n < 0 {
-        return put_negative(out, at, negated(n));
+        return put_negative(out, at, n.unsigned_abs());
     }
-    put_decimal(out, at, n as u64)
-}
-
-// How far a number lies below zero.
-fn negated(n: i64) -> u64
-    requires { lt_z n (pos 0) ≡ true }
-    ensures { result ≡ mag n + 1 }
-{
-    (-(n + 1)) as u64 + 1
+    put_decimal(out, at, n.unsigned_abs())
 }
 
 // Lays a minus and a number in decimal: both fit, or neither is laid.
@@ -75,9 +67,7 @@ fn spell(out: &mut [u8], at: usize, n: u64, base: u64, count: usize)
     ensures { out.new ≡ over out.old at (last_digits base count n) }
 {
     let mut rest = n;
-    let mut left = count;
-    while left > 0 {
-        left -= 1;
+    for left in (0..count).rev() {
         out[at + left] = digit((rest % base) as usize);
         rest /= base;
     }
@@ -97,6 +87,7 @@ fn decimal_places(n: u64) -> usize
 {
     let mut rest = n;
     let mut count: usize = 1;
+    // no range: what is left of the number ends it
     while rest >= 10 {
         rest /= 10;
         count += 1;

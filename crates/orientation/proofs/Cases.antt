@@ -6,7 +6,10 @@ use Prim.Native.String.{String}
 use mathlib.Core.Path.{◌≡◌, refl}
 use mathlib.Core.List.{List, [], ◌∷◌, ◌++◌}
 use lib.Ieee.{of_bits, lt}
+use Rattle.std.specs.Prelude.{Option, Some, None, Result, Ok}
 use Rattle.foundation.specs.Text.{characters, key}
+use Rattle.foundation.specs.Refusals.{refuse}
+use Rattle.foundation.specs.declared.refusal.Refusal.{Refusal}
 use Rattle.keys.specs.Keys.{tags, tag_of}
 use Rattle.keys.specs.Table.{found}
 use Rattle.klv.specs.Item.{first_item}
@@ -17,10 +20,9 @@ use Rattle.value.specs.Value.{kind_of, is_quaternions, plan_of}
 use Rattle.items.specs.At.{found_at}
 use Rattle.rows.specs.Lookup.{rows_of, matching, last_from, lookup_of}
 use Rattle.tagged.specs.Tagged.{tagged_at, tagged_of}
+use Rattle.axes.specs.declared.Axes.{Axes}
 use Rattle.axes.specs.Matrix.{three_ascii, orientations_of, entry_of}
 use Rattle.axes.specs.Back.{beyond, lettered, orientation_in}
-use Rattle.orientation.specs.declared.Oriented.{Oriented}
-use Rattle.orientation.specs.declared.Oriented.TheVariants.{Is, Nothing, Refused}
 use Rattle.orientation.specs.Matrix.{singles_of}
 use Rattle.orientation.specs.Group.{orientation_of_group}
 
@@ -32,20 +34,20 @@ text_item name text = characters name ++ (code "c" ∷ 1 ∷ 0 ∷ 3 ∷ charact
 abbrev row_for : String → ℕ → List ℕ
 row_for name place = place ∷ 1 ∷ key "GYRO" ∷ tag_of (key name) ∷ key name ∷ 0 ∷ 4294967295 ∷ 1 ∷ []
 
-abbrev of_gyro : List ℕ → List ℕ → ℕ → Oriented
+abbrev of_gyro : List ℕ → List ℕ → ℕ → Result (Option Axes) Refusal
 of_gyro s rows count = orientation_of_group s rows count 1 (key "GYRO")
 
-abbrev axes : ℕ → ℕ → ℕ → Oriented
-axes a b c = Is (record { first = a; second = b; third = c })
+abbrev axes : ℕ → ℕ → ℕ → Result (Option Axes) Refusal
+axes a b c = Ok (Some (record { first = a; second = b; third = c }))
 
 -- CASE 10 in a payload: ORIN YxZ and ORIO XYZ are yXZ; of two ORIO the last counts; ORIN alone is nothing; two rows in the room of one are refused;
 -- so is a matrix with a row of noughts
 pub texts_of_a_group : (of_gyro (text_item "ORIN" "YxZ" ++ text_item "ORIO" "XYZ") (row_for "ORIN" 0 ++ row_for "ORIO" 12) 2 ≡ axes (code "y") (code "X") (code "Z"))
     × (of_gyro (text_item "ORIN" "YxZ" ++ text_item "ORIO" "XYZ") (row_for "ORIN" 0 ++ row_for "ORIO" 12 ++ row_for "ORIO" 0) 3 ≡ axes (code "X") (code "Y") (code "Z"))
-    × (of_gyro (text_item "ORIN" "YxZ") (row_for "ORIN" 0) 1 ≡ Nothing)
-    × (of_gyro (text_item "ORIN" "YxZ") (row_for "ORIN" 0) 2 ≡ Refused 5 0)
+    × (of_gyro (text_item "ORIN" "YxZ") (row_for "ORIN" 0) 1 ≡ Ok None)
+    × (of_gyro (text_item "ORIN" "YxZ") (row_for "ORIN" 0) 2 ≡ refuse 5 0)
     × (of_gyro (text_item "ORIN" "YxZ" ++ text_item "ORIO" "XXX") (row_for "ORIN" 0 ++ row_for "ORIO" 12) 2 ≡ axes (code "y") (code "y") (code "y"))
-    × (of_gyro (text_item "ORIN" "YYZ" ++ text_item "ORIO" "XYZ") (row_for "ORIN" 0 ++ row_for "ORIO" 12) 2 ≡ Refused 10 0)
+    × (of_gyro (text_item "ORIN" "YYZ" ++ text_item "ORIO" "XYZ") (row_for "ORIN" 0 ++ row_for "ORIO" 12) 2 ≡ refuse 10 0)
 unfolding orientation_of_group tagged_of tagged_at lookup_of rows_of last_from matching tags found found_at first_item plan_of is_quaternions one_text width_of kind_of element_at element_of singles_of orientations_of three_ascii entry_of beyond lettered orientation_in lt of_bits
 texts_of_a_group = (refl, refl, refl, refl, refl, refl)
 
@@ -64,12 +66,12 @@ numbers = nought ++ nought ++ one ++ nought ++ one ++ nought ++ one ++ nought ++
 abbrev matrix_item : ℕ → ℕ → List ℕ
 matrix_item size repeat = characters "MTRX" ++ (code "f" ∷ size ∷ 0 ∷ repeat ∷ numbers)
 
-abbrev with_texts : List ℕ → Oriented
+abbrev with_texts : List ℕ → Result (Option Axes) Refusal
 with_texts mtrx = of_gyro (text_item "ORIN" "YxZ" ++ text_item "ORIO" "XYZ" ++ mtrx) (row_for "ORIN" 0 ++ row_for "ORIO" 12 ++ row_for "MTRX" 24) 3
 
 -- MTRX BEFORE THEM: nine numbers in a row; as a list, or as vectors, it serves for none, and the texts are not asked; two numbers in a row are refused
-pub matrix_of_a_group : (with_texts (matrix_item 36 1) ≡ axes (code "Z") (code "Y") (code "X")) × (with_texts (matrix_item 4 9) ≡ Nothing) × (with_texts (matrix_item 12 3) ≡ Nothing)
-    × (with_texts (matrix_item 8 4) ≡ Refused 10 0)
+pub matrix_of_a_group : (with_texts (matrix_item 36 1) ≡ axes (code "Z") (code "Y") (code "X")) × (with_texts (matrix_item 4 9) ≡ Ok None) × (with_texts (matrix_item 12 3) ≡ Ok None)
+    × (with_texts (matrix_item 8 4) ≡ refuse 10 0)
 unfolding orientation_of_group tagged_of tagged_at lookup_of rows_of last_from matching tags found found_at first_item plan_of is_quaternions one_text width_of kind_of element_at element_of singles_of orientations_of three_ascii entry_of beyond lettered orientation_in lt of_bits
 matrix_of_a_group = (refl, refl, refl, refl)
 
@@ -80,9 +82,9 @@ abbrev short_date : String → List ℕ
 short_date name = characters name ++ (code "U" ∷ 1 ∷ 0 ∷ 1 ∷ code "2" ∷ 0 ∷ 0 ∷ 0 ∷ [])
 
 -- NO AXES out of a value that cannot be read; an item that is cut off, or not there, is refused
-pub unread_of_a_group : (with_texts (short_date "MTRX") ≡ Nothing) × (of_gyro (short_date "ORIN" ++ text_item "ORIO" "XYZ") (row_for "ORIN" 0 ++ row_for "ORIO" 12) 2 ≡ Nothing)
-    × (of_gyro (text_item "ORIN" "YxZ" ++ short_date "ORIO") (row_for "ORIN" 0 ++ row_for "ORIO" 12) 2 ≡ Nothing)
-    × (with_texts (characters "MTRX" ++ (code "f" ∷ 36 ∷ 0 ∷ 1 ∷ one)) ≡ Refused 2 24)
-    × (with_texts (characters "MTRX") ≡ Refused 12 24)
+pub unread_of_a_group : (with_texts (short_date "MTRX") ≡ Ok None) × (of_gyro (short_date "ORIN" ++ text_item "ORIO" "XYZ") (row_for "ORIN" 0 ++ row_for "ORIO" 12) 2 ≡ Ok None)
+    × (of_gyro (text_item "ORIN" "YxZ" ++ short_date "ORIO") (row_for "ORIN" 0 ++ row_for "ORIO" 12) 2 ≡ Ok None)
+    × (with_texts (characters "MTRX" ++ (code "f" ∷ 36 ∷ 0 ∷ 1 ∷ one)) ≡ refuse 2 24)
+    × (with_texts (characters "MTRX") ≡ refuse 12 24)
 unfolding orientation_of_group tagged_of tagged_at lookup_of rows_of last_from matching tags found found_at first_item plan_of is_quaternions one_text width_of kind_of element_at element_of singles_of orientations_of three_ascii entry_of beyond lettered orientation_in lt of_bits
 unread_of_a_group = (refl, refl, refl, refl, refl)

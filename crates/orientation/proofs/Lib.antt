@@ -1,4 +1,3 @@
 pub mod Matrices
 pub mod TextEnds
-pub mod Groups
 pub mod Cases

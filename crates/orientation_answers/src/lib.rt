@@ -6,9 +6,8 @@ ghost use Rattle.std.specs.Prelude.{◌≡◌};
 ghost use Rattle.orientation_answers.specs.Answers as tells;
 
 use answer_kinds::{IS, NOTHING, REFUSED};
-use axes::{Axes, Orientation, Orientations};
-use orientation::Oriented;
-use quaternions::ScaledRow;
+use axes::{Axes, Orientations};
+use foundation::refusal::Refusal;
 use scaling::Quaternion;
 
 // Three axes.
@@ -21,17 +20,6 @@ pub struct AxesAnswer {
     pub axes: Axes,
 }
 
-fn axes(kind: u32, number: u32, place: usize, axes: Axes) -> AxesAnswer
-    ensures { result ≡ tells.axes kind number place axes }
-{
-    AxesAnswer {
-        kind,
-        number,
-        place,
-        axes,
-    }
-}
-
 // No axes.
 const NO_AXES: Axes = Axes {
     first: 0,
@@ -39,22 +27,25 @@ const NO_AXES: Axes = Axes {
     third: 0,
 };
 
-pub fn of_orientation(x: Orientation) -> AxesAnswer
+pub fn of_orientation(x: Result<Axes, Refusal>) -> AxesAnswer
     ensures { result ≡ tells.of_orientation x }
 {
-    match x {
-        Orientation::Is(a) => axes(IS, 0, 0, a),
-        Orientation::Refused { number, place } => axes(REFUSED, number, place, NO_AXES),
-    }
+    of_oriented(x.map(Some))
 }
 
-pub fn of_oriented(x: Oriented) -> AxesAnswer
+pub fn of_oriented(x: Result<Option<Axes>, Refusal>) -> AxesAnswer
     ensures { result ≡ tells.of_oriented x }
 {
-    match x {
-        Oriented::Is(a) => axes(IS, 0, 0, a),
-        Oriented::Nothing => axes(NOTHING, 0, 0, NO_AXES),
-        Oriented::Refused { number, place } => axes(REFUSED, number, place, NO_AXES),
+    let (kind, number, place, axes) = match x {
+        Ok(Some(axes)) => (IS, 0, 0, axes),
+        Ok(None) => (NOTHING, 0, 0, NO_AXES),
+        Err(refusal) => (REFUSED, refusal.number, refusal.place, NO_AXES),
+    };
+    AxesAnswer {
+        kind,
+        number,
+        place,
+        axes,
     }
 }
 
@@ -69,26 +60,19 @@ pub struct OrientationsAnswer {
     pub orio: Axes,
 }
 
-fn orientations(kind: u32, number: u32, place: usize, orin: Axes, orio: Axes) -> OrientationsAnswer
-    ensures { result ≡ tells.orientations kind number place orin orio }
+pub fn of_orientations(x: Result<Orientations, Refusal>) -> OrientationsAnswer
+    ensures { result ≡ tells.of_orientations x }
 {
+    let (kind, number, place, orin, orio) = match x {
+        Ok(both) => (IS, 0, 0, both.orin, both.orio),
+        Err(refusal) => (REFUSED, refusal.number, refusal.place, NO_AXES, NO_AXES),
+    };
     OrientationsAnswer {
         kind,
         number,
         place,
         orin,
         orio,
-    }
-}
-
-pub fn of_orientations(x: Orientations) -> OrientationsAnswer
-    ensures { result ≡ tells.of_orientations x }
-{
-    match x {
-        Orientations::Are { orin, orio } => orientations(IS, 0, 0, orin, orio),
-        Orientations::Refused { number, place } => orientations(
-            REFUSED, number, place, NO_AXES, NO_AXES,
-        ),
     }
 }
 
@@ -102,17 +86,6 @@ pub struct QuaternionAnswer {
     pub quaternion: Quaternion,
 }
 
-fn quaternion(kind: u32, number: u32, place: usize, quaternion: Quaternion) -> QuaternionAnswer
-    ensures { result ≡ tells.quaternion kind number place quaternion }
-{
-    QuaternionAnswer {
-        kind,
-        number,
-        place,
-        quaternion,
-    }
-}
-
 // No quaternion.
 const NO_QUATERNION: Quaternion = Quaternion {
     w: 0.0,
@@ -121,12 +94,18 @@ const NO_QUATERNION: Quaternion = Quaternion {
     z: 0.0,
 };
 
-pub fn of_scaled_row(x: ScaledRow) -> QuaternionAnswer
+pub fn of_scaled_row(x: Result<Option<Quaternion>, Refusal>) -> QuaternionAnswer
     ensures { result ≡ tells.of_scaled_row x }
 {
-    match x {
-        ScaledRow::Is(q) => quaternion(IS, 0, 0, q),
-        ScaledRow::Nothing => quaternion(NOTHING, 0, 0, NO_QUATERNION),
-        ScaledRow::Refused { number, place } => quaternion(REFUSED, number, place, NO_QUATERNION),
+    let (kind, number, place, quaternion) = match x {
+        Ok(Some(quaternion)) => (IS, 0, 0, quaternion),
+        Ok(None) => (NOTHING, 0, 0, NO_QUATERNION),
+        Err(refusal) => (REFUSED, refusal.number, refusal.place, NO_QUATERNION),
+    };
+    QuaternionAnswer {
+        kind,
+        number,
+        place,
+        quaternion,
     }
 }

@@ -10,13 +10,14 @@ use Rattle.klv.specs.OneText.{one_text, type_text}
 use Rattle.elements.specs.Types.{width_of}
 use Rattle.texts.specs.Utf8.{well_formed, table}
 use Rattle.texts.specs.Texts.{chunks, are_well_formed}
-use Rattle.values.specs.declared.Headed.TheVariants as headed
+use Rattle.std.specs.Prelude.{Result, Ok}
+use Rattle.foundation.specs.declared.refusal.Refusal.{Refusal}
+use Rattle.foundation.specs.Refusals.{refuse}
 use Rattle.value.specs.Value.{kind_of, is_quaternions, letter_plan, plan_of}
 use Rattle.items.specs.At.{type_named_at, found_at}
 use Rattle.values.specs.At.{klv_of_found}
 use Rattle.parts.specs.declared.Part.{Part}
-use Rattle.parts.specs.declared.Part.TheVariants.{At, Refused}
-use Rattle.parts.specs.Parts.{bytes_of_found, row_text, text_of_found, cut}
+use Rattle.parts.specs.Parts.{placed, bytes_of_found, row_text, text_of_found, cut}
 
 -- an item: key, type, size, repeat below 256, payload
 abbrev item_of : String → String → ℕ → ℕ → List ℕ → List ℕ
@@ -28,15 +29,15 @@ none = 4294967295
 
 -- a part that is asked for, of some bytes and at a place, and what it is
 pub data Case : Type 0 where
-  bytes : List ℕ → ℕ → Part → Case
-  text : List ℕ → ℕ → ℕ → Part → Case
+  bytes : List ℕ → ℕ → Result Part Refusal → Case
+  text : List ℕ → ℕ → ℕ → Result Part Refusal → Case
 
 -- what the definitions come to
-abbrev pub comes : Case → Part
+abbrev pub comes : Case → Result Part Refusal
 comes (bytes s at is) = bytes_of_found (found_at s at none) at
 comes (text s at row is) = text_of_found (found_at s at none) at row
 
-abbrev pub says : Case → Part
+abbrev pub says : Case → Result Part Refusal
 says (bytes s at is) = is
 says (text s at row is) = is
 
@@ -50,22 +51,22 @@ several = five ++ (0 ∷ 0 ∷ 0 ∷ item_of "UNIT" "c" 2 2 (65 ∷ 0 ∷ 66 ∷
 abbrev pub cases : List Case
 cases =
     -- behind the header, without the padding; refused as a value is
-    bytes five 0 (At 8 5)
-    ∷ bytes several 16 (At 24 4)
-    ∷ bytes (item_of "ABCD" "B" 5 1 (1 ∷ [])) 0 (Refused 2 0)
-    ∷ bytes five 6 (Refused 12 6)
-    ∷ bytes (item_of "ABCD" "B" 0 1 []) 0 (Refused 12 0)
+    bytes five 0 (placed 8 5)
+    ∷ bytes several 16 (placed 24 4)
+    ∷ bytes (item_of "ABCD" "B" 5 1 (1 ∷ [])) 0 (refuse 2 0)
+    ∷ bytes five 6 (refuse 12 6)
+    ∷ bytes (item_of "ABCD" "B" 0 1 []) 0 (refuse 12 0)
     -- one text, in row 0: trailing zeros are not kept, others are
-    ∷ text (item_of "STNM" "c" 1 4 (65 ∷ 0 ∷ 66 ∷ 0 ∷ [])) 0 0 (At 8 3)
-    ∷ text (item_of "STNM" "c" 1 4 (65 ∷ 0 ∷ 66 ∷ 0 ∷ [])) 0 1 (Refused 13 0)
-    ∷ text (item_of "STNM" "F" 2 2 (65 ∷ 66 ∷ 67 ∷ 68 ∷ [])) 0 0 (At 8 4)
+    ∷ text (item_of "STNM" "c" 1 4 (65 ∷ 0 ∷ 66 ∷ 0 ∷ [])) 0 0 (placed 8 3)
+    ∷ text (item_of "STNM" "c" 1 4 (65 ∷ 0 ∷ 66 ∷ 0 ∷ [])) 0 1 (refuse 13 0)
+    ∷ text (item_of "STNM" "F" 2 2 (65 ∷ 66 ∷ 67 ∷ 68 ∷ [])) 0 0 (placed 8 4)
     -- several: each in its own room, up to its first zero
-    ∷ text several 16 0 (At 24 1)
-    ∷ text several 16 1 (At 26 2)
-    ∷ text several 16 2 (Refused 13 16)
+    ∷ text several 16 0 (placed 24 1)
+    ∷ text several 16 1 (placed 26 2)
+    ∷ text several 16 2 (refuse 13 16)
     -- no text, and one that is not readable
-    ∷ text five 0 0 (Refused 13 0)
-    ∷ text (item_of "UNIT" "c" 2 2 (178 ∷ 0 ∷ 65 ∷ 0 ∷ [])) 0 1 (Refused 7 0)
+    ∷ text five 0 0 (refuse 13 0)
+    ∷ text (item_of "UNIT" "c" 2 2 (178 ∷ 0 ∷ 65 ∷ 0 ∷ [])) 0 1 (refuse 7 0)
     ∷ []
 
 pub as_defined : map comes cases ≡ map says cases
@@ -77,6 +78,6 @@ pub cut_out : cut (text_of_found (found_at several 16 none) 16 1) several ≡ ch
 unfolding fix run found_at first_item plan_of is_quaternions width_of one_text letter_plan kind_of well_formed table chunks are_well_formed row_text
 cut_out = refl
 
-pub header : klv_of_found (found_at several 16 none) ≡ headed.Is (record { key = key "UNIT"; data_type = 99; size = 2; repeat = 2 })
+pub header : klv_of_found (found_at several 16 none) ≡ Ok (record { key = key "UNIT"; data_type = 99; size = 2; repeat = 2 })
 unfolding found_at first_item
 header = refl

@@ -11,7 +11,8 @@ use lib.Seq.{drop-drop}
 use Rattle.klv.specs.declared.KLV.{KLV}
 use Rattle.klv.specs.Item.{data_len, First, few, past, item, first_item, header_of}
 use Rattle.klv.proofs.Item.{of_item, item_lengths}
-use Rattle.values.specs.declared.Headed.TheVariants as headed
+use Rattle.std.specs.Prelude.{Ok, Err}
+use Rattle.foundation.specs.declared.refusal.Refusal.{Refusal}
 use Rattle.items.specs.At.{Named, named, bad, Found, found, stopped, type_for, over_if, whole_if, found_by, found_at}
 use Rattle.values.specs.At.{klv_of_found}
 use Rattle.parts.specs.Parts.{bytes_from, cut, bytes_of_found}
@@ -73,19 +74,19 @@ module _ (s : List ℕ) (at type : ℕ) where
     pub is : found_at s at type ≡ found h payload text
     pub there : StandsAt s at h payload
 
-  pub by_header : (h : KLV) → klv_of_found (found_at s at type) ≡ headed.Is h → Found-by h
-  by_header h e = go (found_at s at type) refl e
+  pub by_header : (h : KLV) → Ok h ≡ klv_of_found (found_at s at type) → Found-by h
+  by_header h e = go (found_at s at type) refl (sym e)
     where
-      go : (x : Found) → found_at s at type ≡ x → klv_of_found x ≡ headed.Is h → Found-by h
+      go : (x : Found) → found_at s at type ≡ x → klv_of_found x ≡ Ok h → Found-by h
       go (stopped number place) k e' = let o : ◌≡◌ {A = ℕ} 0 1 = cc in absurd (omega arith)
       go (found g payload text) k e' =
           let same : g ≡ h = cc in
           let is : found_at s at type ≡ found h payload text = k ∙ ap (λ (x : KLV). found x payload text) same in
           record { payload = payload; text = text; is = is; there = stands s at type h payload text is }
 
-  pub by_refusal : (number place : ℕ) → klv_of_found (found_at s at type) ≡ headed.Refused number place → found_at s at type ≡ stopped number place
-  by_refusal number place e = go (found_at s at type) refl e
+  pub by_refusal : (r : Refusal) → Err r ≡ klv_of_found (found_at s at type) → found_at s at type ≡ stopped r.number r.place
+  by_refusal r e = go (found_at s at type) refl (sym e)
     where
-      go : (x : Found) → found_at s at type ≡ x → klv_of_found x ≡ headed.Refused number place → found_at s at type ≡ stopped number place
-      go (stopped n p) k e' = let a : n ≡ number = cc in let b : p ≡ place = cc in k ∙ (λ i. stopped (a i) (b i))
+      go : (x : Found) → found_at s at type ≡ x → klv_of_found x ≡ Err r → found_at s at type ≡ stopped r.number r.place
+      go (stopped n p) k e' = let same : record { number = n; place = p } ≡ r = cc in k ∙ (λ i. stopped (same i).number (same i).place)
       go (found g payload text) k e' = let o : ◌≡◌ {A = ℕ} 0 1 = cc in absurd (omega arith)

@@ -19,14 +19,15 @@ use Rattle.elements.specs.Types.{width_of}
 use Rattle.texts.specs.Kept.{kept}
 use Rattle.texts.specs.Texts.{are_well_formed}
 use Rattle.texts.proofs.Kept.{kept_front, up_to_zero_front, up_to_zero_length}
-use Rattle.value.specs.declared.Count.TheVariants as columns
+use Rattle.std.specs.Prelude.{Result, Ok}
+use Rattle.foundation.specs.declared.refusal.Refusal.{Refusal}
+use Rattle.foundation.specs.Refusals.{refuse}
 use Rattle.value.specs.declared.Plan.TheVariants.{Even}
 use Rattle.value.specs.Value.{Value, ValueOutcome, readable, refused, gridded, text, texts, text_of, is_quaternions, letter_plan, plan_of, value_by, value_of}
 use Rattle.items.specs.At.{Found, found, found_at}
 use Rattle.value.specs.Answer.{columns_in}
 use Rattle.parts.specs.declared.Part.{Part}
-use Rattle.parts.specs.declared.Part.TheVariants.{At, Refused}
-use Rattle.parts.specs.Parts.{none, row_text, part_of, text_in, text_of_found, text_by, SmallRow, bytes_from}
+use Rattle.parts.specs.Parts.{placed, none, row_text, part_of, text_in, text_of_found, text_by, SmallRow, bytes_from}
 use Rattle.parts.specs.Parts as Parts
 use Rattle.parts.proofs.Found.{StandsAt, stands}
 
@@ -58,13 +59,13 @@ module _ (h : KLV) (payload type : List ℕ) where
 
 -- a row's part by its columns, in the three cases
 module _ (h : KLV) (at row n : ℕ) where
-  pub part_one : one_text h ≡ true → At (at + 8) n ≡ text_by h (columns.Are n) at row
+  pub part_one : one_text h ≡ true → placed (at + 8) n ≡ text_by h (Ok n) at row
   part_one t = rw t
 
-  pub part_several : one_text h ≡ false → h.data_type ≡ code "c" → (size : ℕ) → size ≡ h.size → At (at + 8 + row * size) n ≡ text_by h (columns.Are n) at row
+  pub part_several : one_text h ≡ false → h.data_type ≡ code "c" → (size : ℕ) → size ≡ h.size → placed (at + 8 + row * size) n ≡ text_by h (Ok n) at row
   part_several t k size e = rw (t, eq-eqb h.data_type (code "c") k, e)
 
-  pub part_none : one_text h ≡ false → (h.data_type ≡ code "c" → ⊥) → Refused 13 at ≡ text_by h (columns.Are n) at row
+  pub part_none : one_text h ≡ false → (h.data_type ≡ code "c" → ⊥) → refuse 13 at ≡ text_by h (Ok n) at row
   part_none t k = rw (t, ne_eqb h.data_type (code "c") k)
 
 -- ---- the rows of texts, and the columns of each
@@ -108,29 +109,29 @@ module _ (h : KLV) (payload type : List ℕ) (row : ℕ) where
               let less : row * h.size ≤ h.repeat * h.size = mul-le-mul_right h.size rows in
               omega (arith, mul_comm h.repeat h.size)
 
-      go : (b : Bool) → ltb row v.rows ≡ b → SmallRow h (cond b (columns.Are (v.columns row)) (columns.Refused 13 at)) row
+      go : (b : Bool) → ltb row v.rows ≡ b → SmallRow h (cond b (Ok (v.columns row)) (refuse 13 at)) row
       go true inside = less (ltb-true row v.rows inside)
       go false inside = tt
 
   -- BY THE COLUMNS of a row: the part of its text is the defined one
   module _ (at : ℕ) where
     one_part : (b c : Bool) → one_text h ≡ b → eqb h.data_type (code "c") ≡ c → (v : Value) → value ≡ readable v
-        → text_by h (columns.Are (v.columns row)) at row ≡ part_of (row_text h payload row) at
+        → text_by h (Ok (v.columns row)) at row ≡ part_of (row_text h payload row) at
     unfolding row_text
     one_part true c t k v e =
         let n = (subst (Has 1 (length (kept payload))) e (one_text_has t)).1 in
         let start : at + 8 ≡ at + 8 + 0 = omega arith in
-        rw t (λ i. At (start i) (n i))
+        rw t (λ i. placed (start i) (n i))
     one_part false true t k v e =
         let n = (subst (Has h.repeat (length (text_of h payload row))) e (texts_have t (eqb-true h.data_type (code "c") k))).1 in
-        rw (t, k) (ap (At (at + 8 + row * h.size)) n)
+        rw (t, k) (ap (placed (at + 8 + row * h.size)) n)
     one_part false false t k v e = rw (t, k)
 
     pub by_columns : (o : ValueOutcome) → value ≡ o → text_by h (columns_in at o row) at row ≡ text_in at h payload o row
     by_columns (refused number) e = refl
     by_columns (readable v) e = go (ltb row v.rows)
       where
-        go : (b : Bool) → text_by h (cond b (columns.Are (v.columns row)) (columns.Refused 13 at)) at row ≡ cond b (part_of (row_text h payload row) at) (Refused 13 at)
+        go : (b : Bool) → text_by h (cond b (Ok (v.columns row)) (refuse 13 at)) at row ≡ cond b (part_of (row_text h payload row) at) (refuse 13 at)
         go true = one_part (one_text h) (eqb h.data_type (code "c")) refl refl v e
         go false = refl
 
@@ -188,15 +189,15 @@ module _ (h : KLV) (payload : List ℕ) (row before : ℕ) (bytes : List ℕ) wh
         ap (take (length bytes)) (sym (drop-drop before (at + 8) s)) ∙ sym (front_within (length bytes) before n rest count) ∙ ap (take (length bytes)) inside ∙ fronts is-text
 
 -- A TEXT of the value of an item: the part that is told has its kept bytes, and they are the columns of the row
-pub record TextIs (s : List ℕ) (at row : ℕ) (v : Value) (p : Part) (bytes : List ℕ) : Type 0 where
+pub record TextIs (s : List ℕ) (at row : ℕ) (v : Value) (p : Result Part Refusal) (bytes : List ℕ) : Type 0 where
   pub cut : Parts.cut p s ≡ bytes
   pub columns : v.columns row ≡ length bytes
 
 pub text_is : (s : List ℕ) (at type : ℕ) (h : KLV) (payload text : List ℕ) → found_at s at type ≡ found h payload text → (v : Value) → value_of h payload text ≡ readable v
     → (row before : ℕ) (bytes : List ℕ) → row < v.rows → row_text h payload row ≡ Parts.text before bytes → TextIs s at row v (text_of_found (found_at s at type) at row) bytes
 text_is s at type h payload text e v r row before bytes inside t =
-    let told : text_of_found (found_at s at type) at row ≡ At (at + 8 + before) (length bytes) = ap (λ (f : Found). text_of_found f at row) e ∙ ap (λ (o : ValueOutcome). text_in at h payload o row) r ∙ rw (lt-ltb row v.rows inside, t) in
+    let told : text_of_found (found_at s at type) at row ≡ placed (at + 8 + before) (length bytes) = ap (λ (f : Found). text_of_found f at row) e ∙ ap (λ (o : ValueOutcome). text_in at h payload o row) r ∙ rw (lt-ltb row v.rows inside, t) in
     record {
-      cut = ap (λ (p : Part). Parts.cut p s) told ∙ text_stands h payload row before bytes s at (stands s at type h payload text e) t;
+      cut = ap (λ (p : Result Part Refusal). Parts.cut p s) told ∙ text_stands h payload row before bytes s at (stands s at type h payload text e) t;
       columns = columns_are h payload row before bytes text v r t;
     }

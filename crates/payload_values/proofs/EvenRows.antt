@@ -7,12 +7,12 @@ use lib.Dec.{leb}
 use lib.ListN.{length}
 use Rattle.klv.specs.declared.KLV.{KLV}
 use Rattle.elements.specs.Types.{width_of}
-use Rattle.dates.specs.declared.Date.{Date}
-use Rattle.dates.specs.declared.Date.TheVariants.{Milliseconds, TooFew, Unreadable}
+use Rattle.foundation.specs.declared.refusal.Fault.{Fault}
 use Rattle.custom_type.specs.Expansion.{expanded}
 use Rattle.value.specs.declared.Grid.{Grid}
-use Rattle.value.specs.declared.Shaped.{Shaped}
-use Rattle.value.specs.declared.Count.{Count}
+use Rattle.std.specs.Prelude.{Result, Ok, Err}
+use Rattle.foundation.specs.declared.refusal.Refusal.{Refusal}
+use Rattle.value.specs.declared.Shape.{Shape}
 use Rattle.value.specs.Value.{ValueOutcome, readable, refused, placed, gridded, dated, column_letters, widths_of, structured, structures, unknown}
 use Rattle.value.specs.Answer.{shape_in, columns_in, columns_by_shape}
 
@@ -21,8 +21,8 @@ module _ (place row : ℕ) where
   Even o = columns_by_shape (shape_in place o) place row ≡ columns_in place o row
 
   -- so they may be read off the shape
-  pub by_shape : (o : ValueOutcome) {s : Shaped} {x : Count} → Even o → s ≡ shape_in place o → x ≡ columns_by_shape s place row → x ≡ columns_in place o row
-  by_shape o even shape is = is ∙ ap (λ (s : Shaped). columns_by_shape s place row) shape ∙ even
+  pub by_shape : (o : ValueOutcome) {s : Result Shape Refusal} {x : Result ℕ Refusal} → Even o → s ≡ shape_in place o → x ≡ columns_by_shape s place row → x ≡ columns_in place o row
+  by_shape o even shape is = is ∙ ap (λ (s : Result Shape Refusal). columns_by_shape s place row) shape ∙ even
 
   either : (b : Bool) (x y : ValueOutcome) → Even x → Even y → Even (cond b x y)
   either true x y p q = p
@@ -32,10 +32,9 @@ module _ (place row : ℕ) where
   grid_even g payload =
       either (leb (g.rows * g.columns * width_of g.letter) (length payload)) (readable (record { kind = g.kind; rows = g.rows; columns = λ r. g.columns; element = λ r c. placed g payload r c })) (refused 6) refl refl
 
-  pub date_even : (d : Date) → Even (dated d)
-  date_even (Milliseconds n) = refl
-  date_even TooFew = refl
-  date_even Unreadable = refl
+  pub date_even : (d : Result ℕ Fault) → Even (dated d)
+  date_even (Ok n) = refl
+  date_even (Err f) = refl
 
   structured_even : (letters : List ℕ) (h : KLV) (payload : List ℕ) → Even (structured letters h payload)
   structured_even letters h payload = go (leb (h.repeat * widths_of letters) (length payload)) refl

@@ -4,38 +4,41 @@ ghost use Rattle.value.specs.Value.{gridded};
 ghost use Rattle.value.specs.Answer.{element_in, shape_in};
 ghost use Rattle.payload_values.specs.Small.{Counted};
 
-use value::{Grid, Read, Shape, Shaped};
+use elements::Element;
+use foundation::refusal::{Fault, Refusal};
+use value::{Grid, Shape};
 
-// The element at a row and a column: first the whole shape must be there.
-pub(crate) fn element(grid: Grid, place: usize, payload: &[u8], row: usize, column: usize) -> Read
-    requires { Counted grid }
-    ensures { result ≡ element_in place (gridded grid payload.now) row column }
-{
-    let width = elements::width(grid.letter);
-    if payload.len() < grid.rows * grid.columns * width {
-        return Read::Refused { number: 6, place };
-    }
-    if grid.rows <= row {
-        return Read::Refused { number: 13, place };
-    }
-    if grid.columns <= column {
-        return Read::Refused { number: 13, place };
-    }
-    Read::Is(elements::element_at(payload, (row * grid.columns + column) * width, grid.letter))
-}
-
-pub(crate) fn shape(grid: Grid, place: usize, payload: &[u8]) -> Shaped
+// Its shape: the bytes of all its cells must be there.
+pub(crate) fn shape(grid: Grid, place: usize, payload: &[u8]) -> Result<Shape, Refusal>
     requires { Counted grid }
     ensures { result ≡ shape_in place (gridded grid payload.now) }
 {
     let width = elements::width(grid.letter);
     if payload.len() < grid.rows * grid.columns * width {
-        return Shaped::Refused { number: 6, place };
+        return Err(Fault::TooFew.at(place));
     }
-    let kind = grid.kind;
-    Shaped::Is(Shape {
-        kind,
+    Ok(Shape {
+        kind: grid.kind,
         rows: grid.rows,
         columns: grid.columns,
     })
+}
+
+// The element at a row and a column: first the whole shape must be there.
+pub(crate) fn element(
+    grid: Grid,
+    place: usize,
+    payload: &[u8],
+    row: usize,
+    column: usize,
+) -> Result<Element, Refusal>
+    requires { Counted grid }
+    ensures { result ≡ element_in place (gridded grid payload.now) row column }
+{
+    shape(grid, place, payload)?;
+    if grid.rows <= row || grid.columns <= column {
+        return Err(Fault::Outside.at(place));
+    }
+    let width = elements::width(grid.letter);
+    Ok(elements::element_at(payload, (row * grid.columns + column) * width, grid.letter))
 }

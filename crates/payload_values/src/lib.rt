@@ -9,22 +9,17 @@ ghost use Rattle.std.specs.Prelude.{◌≡◌};
 ghost use Rattle.value.specs.Value.{is_quaternions, value_of};
 ghost use Rattle.value.specs.Answer.{element_in, shape_in, columns_in, columns_by_shape};
 
+use elements::Element;
+use foundation::refusal::{Fault, Refusal};
 use klv::KLV;
-use value::{Count, Plan, Read, Shaped};
+use value::{Plan, Shape};
 
 // Whether the value under a header is quaternions.
+#[tactic(auto, unfolding(value::specs::Value::is_quaternions))]
 pub fn is_quaternions(klv: KLV) -> bool
     ensures { result ≡ is_quaternions klv }
 {
-    if klv.data_type == b's' {
-        if klv.key == keys::names::CORI {
-            return true;
-        }
-        if klv.key == keys::names::IORI {
-            return true;
-        }
-    }
-    false
+    klv.data_type == b's' && (klv.key == keys::names::CORI || klv.key == keys::names::IORI)
 }
 
 // An element of the value of a header, a payload and the TYPE text in force.
@@ -35,7 +30,7 @@ pub fn element_of(
     type_text: &[u8],
     row: usize,
     column: usize,
-) -> Read
+) -> Result<Element, Refusal>
     ensures { result ≡ element_in place (value_of klv payload.now type_text.now) row column }
 {
     match plan::plan_of(klv, payload) {
@@ -47,7 +42,7 @@ pub fn element_of(
 }
 
 // The shape of the same value.
-pub fn shape_of(place: usize, klv: KLV, payload: &[u8], type_text: &[u8]) -> Shaped
+pub fn shape_of(place: usize, klv: KLV, payload: &[u8], type_text: &[u8]) -> Result<Shape, Refusal>
     ensures { result ≡ shape_in place (value_of klv payload.now type_text.now) }
 {
     match plan::plan_of(klv, payload) {
@@ -59,22 +54,24 @@ pub fn shape_of(place: usize, klv: KLV, payload: &[u8], type_text: &[u8]) -> Sha
 }
 
 // The columns of a row, of a value all of whose rows have as many.
-fn columns_by(shaped: Shaped, place: usize, row: usize) -> Count
+fn columns_by(shaped: Result<Shape, Refusal>, place: usize, row: usize) -> Result<usize, Refusal>
     ensures { result ≡ columns_by_shape shaped place row }
 {
-    match shaped {
-        Shaped::Refused { number, place } => Count::Refused { number, place },
-        Shaped::Is(shape) => {
-            if shape.rows <= row {
-                return Count::Refused { number: 13, place };
-            }
-            Count::Are(shape.columns)
-        }
+    let shape = shaped?;
+    if shape.rows <= row {
+        return Err(Fault::Outside.at(place));
     }
+    Ok(shape.columns)
 }
 
 // The columns of a row of the same value.
-pub fn columns_of(place: usize, klv: KLV, payload: &[u8], type_text: &[u8], row: usize) -> Count
+pub fn columns_of(
+    place: usize,
+    klv: KLV,
+    payload: &[u8],
+    type_text: &[u8],
+    row: usize,
+) -> Result<usize, Refusal>
     ensures { result ≡ columns_in place (value_of klv payload.now type_text.now) row }
 {
     match plan::plan_of(klv, payload) {

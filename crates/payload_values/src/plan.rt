@@ -7,22 +7,17 @@ ghost use Rattle.payload_values.specs.Small.{SmallGrid, Planned, LetterPlanned};
 use klv::{KLV, wide, wider};
 use value::{Grid, Kind, Plan};
 
+#[tactic(auto, unfolding(value::specs::Value::kind_of))]
 fn kind_of(repeat: u16, n: usize) -> Kind
     ensures { result ≡ kind_of repeat n }
 {
-    if n == 1 {
-        if repeat == 1 {
-            return Kind::Single;
-        }
-        return Kind::List;
+    match n {
+        1 if repeat == 1 => Kind::Single,
+        1 => Kind::List,
+        3 => Kind::Vector,
+        4 => Kind::TimedVector,
+        _ => Kind::Nested,
     }
-    if n == 3 {
-        return Kind::Vector;
-    }
-    if n == 4 {
-        return Kind::TimedVector;
-    }
-    Kind::Nested
 }
 
 fn quaternions_of(klv: KLV) -> Grid
@@ -61,6 +56,7 @@ fn text_of(payload: &[u8]) -> Grid
 }
 
 // The letters that are no numbers.
+#[tactic(auto, unfolding(value::specs::Value::letter_plan, elements::specs::Types::width_of))]
 fn letter_plan(letter: u8) -> Plan
     ensures { LetterPlanned letter result }
 {

@@ -1,8 +1,10 @@
 -- What the crate's own functions ask of one another besides the definitions: numbers of 16 bits. Assumes nothing: these are definitions.
-use Rattle.std.specs.Prelude.{ℕ, List}
-use Rattle.tagged.specs.Number.{Sixteen, Held}
-use Rattle.tagged.specs.Read.{read_at}
+use Rattle.std.specs.Prelude.{ℕ, List, ◌≡◌, Ok}
+use Prim.Native.Char.{code}
+use Rattle.klv.specs.Header.{header_at}
+use Rattle.tagged.specs.declared.Tagged.{Tagged}
 
--- every element of the item at a place has 16 bits
-pub record Halves (s : List ℕ) (at : ℕ) : Type 0 where
-  pub held : (row column : ℕ) → Held Sixteen (read_at s at row column)
+-- an item that stands at its place, of the letter s: every element of it has 16 bits
+pub record Halves (s : List ℕ) (t : Tagged) : Type 0 where
+  pub stands : header_at s t.place ≡ Ok t.klv
+  pub letter : t.klv.data_type ≡ code "s"

@@ -7,31 +7,30 @@ use borrow.Author.Tests.{lt-ltb, le-ltb}
 use lib.Dec.{ltb}
 use lib.ListN.{length}
 use Rattle.reading.specs.Walk.{room_of}
+use Rattle.foundation.specs.declared.refusal.Refusal.{Refusal}
+use Rattle.std.specs.Prelude.{Some, None, Result}
 use Rattle.walk.specs.declared.Metadata.{Metadata}
 use Rattle.walk.specs.Metadata.{Read}
-use Rattle.raw_file.specs.declared.Packet.{Packet}
-use Rattle.raw_file.specs.declared.Packets.{Packets}
-use Rattle.raw_file.specs.declared.NextPacket.TheVariants.{Next, End}
+use Rattle.raw_file.specs.declared.Next.{Next}
 use Rattle.raw_file.specs.declared.InWindow.TheVariants as in_window
 use Rattle.raw_file.specs.Packets.{next_packet}
 use Rattle.raw_file.specs.Window.{in_window_of}
-use Rattle.raw_metadata.specs.declared.NextMetadata.TheVariants as next
 use Rattle.raw_metadata.specs.declared.MetadataInWindow.{MetadataInWindow}
 use Rattle.raw_metadata.specs.declared.MetadataInWindow.TheVariants as here
-use Rattle.raw_metadata.specs.Readings.{reading_in, metadata_of, lent_for, ReadNext}
+use Rattle.raw_metadata.specs.Readings.{reading_in, told_with, metadata_of, lent_for, ReadNext}
 use Rattle.raw_metadata.specs.Window.{over_bytes, too_long_at, over_limit, metadata_in, lent_in, ReadInWindow}
 
 module _ (forced : Bool) (bytes : List ℕ) (at : ℕ) (old : List ℕ) where
   -- ---- in a file
 
-  pub no_packet_lem : next_packet bytes at ≡ End → ReadNext forced bytes at old next.End old
+  pub no_packet_lem : next_packet bytes at ≡ None → ReadNext forced bytes at old None old
   no_packet_lem e = record { is = sym (ap (metadata_of forced bytes (room_of (length old))) e); rows = sym (ap (lent_for forced bytes old) e) }
 
-  pub a_packet : (packet : Packet) (rest : Packets) (m : Metadata) (new : List ℕ) → next_packet bytes at ≡ Next packet rest
-      → Read (reading_in forced bytes (room_of (length old)) packet) old m new → ReadNext forced bytes at old (next.Is packet m rest) new
-  a_packet packet rest m new e r =
+  pub a_packet : (next : Next) (m : Result Metadata Refusal) (new : List ℕ) → next_packet bytes at ≡ Some next
+      → Read (reading_in forced bytes (room_of (length old)) next.packet) old m new → ReadNext forced bytes at old (Some (told_with next m)) new
+  a_packet next m new e r =
       record {
-        is = ap (λ (x : Metadata). next.Is packet x rest) r.is ∙ sym (ap (metadata_of forced bytes (room_of (length old))) e);
+        is = ap (λ (x : Result Metadata Refusal). Some (told_with next x)) r.is ∙ sym (ap (metadata_of forced bytes (room_of (length old))) e);
         rows = r.rows ∙ sym (ap (lent_for forced bytes old) e);
       }
 
@@ -46,11 +45,11 @@ module _ (forced : Bool) (bytes : List ℕ) (at : ℕ) (old : List ℕ) where
     more_in from answer e o =
         record { is = o ∙ sym (ap (metadata_in forced bytes (room_of (length old))) e); rows = sym (ap (lent_in forced bytes old) e) }
 
-    pub a_packet_in : (packet : Packet) (rest : Packets) (m : Metadata) (new : List ℕ) → in_window_of bytes more at ≡ in_window.Next packet rest
-        → Read (reading_in forced bytes (room_of (length old)) packet) old m new → ReadInWindow forced bytes more at old (here.Is packet m rest) new
-    a_packet_in packet rest m new e r =
+    pub a_packet_in : (next : Next) (m : Result Metadata Refusal) (new : List ℕ) → in_window_of bytes more at ≡ in_window.Next next
+        → Read (reading_in forced bytes (room_of (length old)) next.packet) old m new → ReadInWindow forced bytes more at old (here.Is (told_with next m)) new
+    a_packet_in next m new e r =
         record {
-          is = ap (λ (x : Metadata). here.Is packet x rest) r.is ∙ sym (ap (metadata_in forced bytes (room_of (length old))) e);
+          is = ap (λ (x : Result Metadata Refusal). here.Is (told_with next x)) r.is ∙ sym (ap (metadata_in forced bytes (room_of (length old))) e);
           rows = r.rows ∙ sym (ap (lent_in forced bytes old) e);
         }
 

@@ -7,7 +7,7 @@ use native.Mathlib.Decide.{dec_le}
 use native.Mathlib.Omega.{arith}
 use lib.ListN.{length, take, drop, length-take, length-drop}
 use Rattle.klv.specs.declared.KLV.{KLV}
-use Rattle.klv.specs.declared.Header.TheVariants.{Item}
+use Rattle.std.specs.Prelude.{Ok}
 use Rattle.klv.specs.Header.{header_at}
 use Rattle.klv.specs.Item.{First, few, past, item, first_item, next_at}
 use Rattle.klv.specs.Level.{Level, left, broken, node, level_from, items_of}
@@ -38,7 +38,7 @@ last_none s at e = go (first_item s) (rw (items_eq s) at e)
 
 -- the last item of the payload s stands at a place, and its padding reaches to the end of the level
 pub record LastStands (s : List ℕ) (end at : ℕ) (h : KLV) : Type 0 where
-  pub header : header_at s at ≡ Item h
+  pub header : header_at s at ≡ Ok h
   pub nothing_behind : end ≤ next_at at h
 
 module _ (s : List ℕ) (end : ℕ) (in_s : end ≤ length s) where

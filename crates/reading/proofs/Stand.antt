@@ -11,7 +11,7 @@ use native.Mathlib.Omega.{arith}
 use lib.Dec.{eqb}
 use lib.ListN.{length}
 use Rattle.klv.specs.declared.KLV.{KLV}
-use Rattle.klv.specs.declared.Header.TheVariants.{Item}
+use Rattle.std.specs.Prelude.{Ok}
 use Rattle.klv.specs.Header.{header_at}
 use Rattle.klv.specs.Item.{data_len, payload_at, end_at}
 use Rattle.klv.specs.OneText.{type_text}
@@ -26,7 +26,7 @@ use Rattle.reading.proofs.Role.{Means, role_means}
 
 -- a whole item with this header and this payload stands at a place
 pub record ItemStands (s : List ℕ) (at : ℕ) (h : KLV) (payload : List ℕ) : Type 0 where
-  pub header : header_at s at ≡ Item h
+  pub header : header_at s at ≡ Ok h
   pub payload_is : payload_at s at h ≡ payload
 
 -- a TYPE item whose value is one text, with this payload, which is not empty

@@ -1,21 +1,18 @@
 -- What a row, a reading and a packet are told as to a caller in another language: a record of numbers, of which those that the answer does not have
 -- are 0 (document 01, Refusal numbers: "A refusal returns its number, a place and zeros"). Assumes nothing: these are definitions.
-use Rattle.std.specs.Prelude.{ℕ, cond, eqb}
+use Rattle.std.specs.Prelude.{ℕ, cond, eqb, Option, Some, None, Result, Ok, Err}
+use Rattle.foundation.specs.Refusals.{refuse}
+use Rattle.foundation.specs.declared.refusal.Refusal.{Refusal}
 use Rattle.walk.specs.declared.Metadata.{Metadata}
-use Rattle.walk.specs.declared.Metadata.TheVariants as reading
 use Rattle.raw_file.specs.declared.Packet.{Packet}
 use Rattle.raw_file.specs.declared.Packets.{Packets}
-use Rattle.raw_file.specs.declared.NextPacket.{NextPacket}
-use Rattle.raw_file.specs.declared.NextPacket.TheVariants as next
+use Rattle.raw_file.specs.declared.Next.{Next}
 use Rattle.raw_file.specs.declared.InWindow.{InWindow}
 use Rattle.raw_file.specs.declared.InWindow.TheVariants as window
 use Rattle.raw_metadata.specs.declared.NextMetadata.{NextMetadata}
-use Rattle.raw_metadata.specs.declared.NextMetadata.TheVariants as next_metadata
 use Rattle.raw_metadata.specs.declared.MetadataInWindow.{MetadataInWindow}
 use Rattle.raw_metadata.specs.declared.MetadataInWindow.TheVariants as window-metadata
 use Rattle.rows.specs.declared.Row.{Row}
-use Rattle.rows.specs.declared.RowAt.{RowAt}
-use Rattle.rows.specs.declared.RowAt.TheVariants as row_at
 use Rattle.answer_kinds.specs.Kinds.{refused, is, nothing, more}
 use Rattle.reading_answers.specs.declared.RowAnswer.{RowAnswer}
 use Rattle.reading_answers.specs.declared.MetadataAnswer.{MetadataAnswer}
@@ -33,9 +30,9 @@ abbrev pub row : ℕ → Row → RowAnswer
 row kind r = record { kind = kind; number = 0; place = 0; row = r }
 
 -- the n-th row, or none there
-abbrev pub of_row_at : RowAt → RowAnswer
-of_row_at (row_at.Is r) = row is r
-of_row_at row_at.Outside = row nothing no_row
+abbrev pub of_row_at : Option Row → RowAnswer
+of_row_at (Some r) = row is r
+of_row_at None = row nothing no_row
 
 -- ---- a reading
 
@@ -44,13 +41,13 @@ abbrev pub metadata : ℕ → ℕ → ℕ → ℕ → ℕ → MetadataAnswer
 metadata kind number place rows headers = record { kind = kind; number = number; place = place; rows = rows; headers = headers }
 
 -- the reading of a payload
-abbrev pub of_metadata : Metadata → MetadataAnswer
-of_metadata (reading.Rows rows headers) = metadata is 0 0 rows headers
-of_metadata (reading.Refused number place) = metadata refused number place 0 0
+abbrev pub of_metadata : Result Metadata Refusal → MetadataAnswer
+of_metadata (Ok m) = metadata is 0 0 m.rows m.headers
+of_metadata (Err r) = metadata refused r.number r.place 0 0
 
 -- the same back: what is not there is refused
-unfoldable pub to_metadata : MetadataAnswer → Metadata
-to_metadata a = cond (eqb a.kind is) (reading.Rows a.rows a.headers) (reading.Refused a.number a.place)
+unfoldable pub to_metadata : MetadataAnswer → Result Metadata Refusal
+to_metadata a = cond (eqb a.kind is) (Ok (record { rows = a.rows; headers = a.headers })) (refuse a.number a.place)
 
 -- ---- packets of a raw file
 
@@ -67,13 +64,13 @@ abbrev pub packet : ℕ → ℕ → Packet → Packets → PacketAnswer
 packet kind place p rest = record { kind = kind; number = 0; place = place; packet = p; rest = rest }
 
 -- the next packet of a file
-abbrev pub of_next_packet : NextPacket → PacketAnswer
-of_next_packet (next.Next p rest) = packet is 0 p rest
-of_next_packet next.End = packet nothing 0 no_packet no_rest
+abbrev pub of_next_packet : Option Next → PacketAnswer
+of_next_packet (Some next) = packet is 0 next.packet next.rest
+of_next_packet None = packet nothing 0 no_packet no_rest
 
 -- more of the file is wanted, from a place on
 abbrev pub of_in_window : InWindow → PacketAnswer
-of_in_window (window.Next p rest) = packet is 0 p rest
+of_in_window (window.Next next) = packet is 0 next.packet next.rest
 of_in_window (window.More from) = packet more from no_packet no_rest
 of_in_window window.End = packet nothing 0 no_packet no_rest
 
@@ -88,13 +85,13 @@ abbrev pub packet_read : ℕ → ℕ → ℕ → Packet → MetadataAnswer → P
 packet_read kind number place p reading rest = record { kind = kind; number = number; place = place; packet = p; metadata = reading; rest = rest }
 
 -- the next packet of a file, read
-abbrev pub of_next_metadata : NextMetadata → PacketMetadataAnswer
-of_next_metadata (next_metadata.Is p reading rest) = packet_read is 0 0 p (of_metadata reading) rest
-of_next_metadata next_metadata.End = packet_read nothing 0 0 no_packet no_metadata no_rest
+abbrev pub of_next_metadata : Option NextMetadata → PacketMetadataAnswer
+of_next_metadata (Some next) = packet_read is 0 0 next.packet (of_metadata next.metadata) next.rest
+of_next_metadata None = packet_read nothing 0 0 no_packet no_metadata no_rest
 
 -- a packet over the limit, wherever it ends, is refused itself: its start is told
 abbrev pub of_metadata_in_window : MetadataInWindow → PacketMetadataAnswer
-of_metadata_in_window (window-metadata.Is p reading rest) = packet_read is 0 0 p (of_metadata reading) rest
-of_metadata_in_window (window-metadata.OverLimit start number place rest) = packet_read refused number place (record { start = start; end = 0 }) no_metadata rest
+of_metadata_in_window (window-metadata.Is next) = packet_read is 0 0 next.packet (of_metadata next.metadata) next.rest
+of_metadata_in_window (window-metadata.OverLimit start r rest) = packet_read refused r.number r.place (record { start = start; end = 0 }) no_metadata rest
 of_metadata_in_window (window-metadata.More from) = packet_read more 0 from no_packet no_metadata no_rest
 of_metadata_in_window window-metadata.End = packet_read nothing 0 0 no_packet no_metadata no_rest

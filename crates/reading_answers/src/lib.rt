@@ -1,4 +1,5 @@
 // Rows, readings and packets as plain records of numbers, for callers in other languages, as crate `answers` has it.
+// Each record has a kind, a number and a place of its own, and kinds are numbers: the C interface.
 
 #![tactic(auto)]
 
@@ -6,10 +7,11 @@ ghost use Rattle.std.specs.Prelude.{◌≡◌};
 ghost use Rattle.reading_answers.specs.Answers as tells;
 
 use answer_kinds::{IS, MORE, NOTHING, REFUSED};
-use metadata::Metadata;
-use raw_file::{InWindow, NextPacket, Packet, Packets};
+use foundation::refusal::Refusal;
+use raw_file::{InWindow, Next, Packet, Packets};
 use raw_metadata::{MetadataInWindow, NextMetadata};
-use rows::{Row, RowAt};
+use rows::Row;
+use walk::Metadata;
 
 // A row.
 #[repr(C)]
@@ -19,17 +21,6 @@ pub struct RowAnswer {
     pub number: u32,
     pub place: usize,
     pub row: Row,
-}
-
-fn row(kind: u32, row: Row) -> RowAnswer
-    ensures { result ≡ tells.row kind row }
-{
-    RowAnswer {
-        kind,
-        number: 0,
-        place: 0,
-        row,
-    }
 }
 
 // No row.
@@ -44,12 +35,18 @@ const NO_ROW: Row = Row {
     depth: 0,
 };
 
-pub fn of_row_at(x: RowAt) -> RowAnswer
+pub fn of_row_at(x: Option<Row>) -> RowAnswer
     ensures { result ≡ tells.of_row_at x }
 {
-    match x {
-        RowAt::Is(found) => row(IS, found),
-        RowAt::Outside => row(NOTHING, NO_ROW),
+    let (kind, row) = match x {
+        Some(row) => (IS, row),
+        None => (NOTHING, NO_ROW),
+    };
+    RowAnswer {
+        kind,
+        number: 0,
+        place: 0,
+        row,
     }
 }
 
@@ -64,9 +61,13 @@ pub struct MetadataAnswer {
     pub headers: usize,
 }
 
-fn metadata(kind: u32, number: u32, place: usize, rows: usize, headers: usize) -> MetadataAnswer
-    ensures { result ≡ tells.metadata kind number place rows headers }
+pub fn of_metadata(x: Result<Metadata, Refusal>) -> MetadataAnswer
+    ensures { result ≡ tells.of_metadata x }
 {
+    let (kind, number, place, rows, headers) = match x {
+        Ok(read) => (IS, 0, 0, read.rows, read.headers),
+        Err(refusal) => (REFUSED, refusal.number, refusal.place, 0, 0),
+    };
     MetadataAnswer {
         kind,
         number,
@@ -76,29 +77,21 @@ fn metadata(kind: u32, number: u32, place: usize, rows: usize, headers: usize) -
     }
 }
 
-pub fn of_metadata(x: Metadata) -> MetadataAnswer
-    ensures { result ≡ tells.of_metadata x }
-{
-    match x {
-        Metadata::Rows { rows, headers } => metadata(IS, 0, 0, rows, headers),
-        Metadata::Refused { number, place } => metadata(REFUSED, number, place, 0, 0),
-    }
-}
-
 // The same back: what is not there is refused.
-pub fn to_metadata(a: MetadataAnswer) -> Metadata
+#[tactic(auto, using(std::proofs::lemmas::Bool::Decides::nat_tests), unfolding(crate::specs::Answers::to_metadata))]
+pub fn to_metadata(a: MetadataAnswer) -> Result<Metadata, Refusal>
     ensures { result ≡ tells.to_metadata a }
 {
     if a.kind == IS {
-        return Metadata::Rows {
+        return Ok(Metadata {
             rows: a.rows,
             headers: a.headers,
-        };
+        });
     }
-    Metadata::Refused {
+    Err(Refusal {
         number: a.number,
         place: a.place,
-    }
+    })
 }
 
 // A packet of a raw file, and the cursor to go on with.
@@ -112,40 +105,32 @@ pub struct PacketAnswer {
     pub rest: Packets,
 }
 
-fn packet(kind: u32, place: usize, packet: Packet, rest: Packets) -> PacketAnswer
-    ensures { result ≡ tells.packet kind place packet rest }
-{
-    PacketAnswer {
-        kind,
-        number: 0,
-        place,
-        packet,
-        rest,
-    }
-}
-
 // No packet.
 const NO_PACKET: Packet = Packet { start: 0, end: 0 };
 
 // No cursor to go on with.
 const NO_REST: Packets = Packets { at: 0 };
 
-pub fn of_next_packet(x: NextPacket) -> PacketAnswer
+pub fn of_next_packet(x: Option<Next>) -> PacketAnswer
     ensures { result ≡ tells.of_next_packet x }
 {
-    match x {
-        NextPacket::Next { packet: p, rest } => packet(IS, 0, p, rest),
-        NextPacket::End => packet(NOTHING, 0, NO_PACKET, NO_REST),
-    }
+    of_in_window(x.map_or(InWindow::End, InWindow::Next))
 }
 
 pub fn of_in_window(x: InWindow) -> PacketAnswer
     ensures { result ≡ tells.of_in_window x }
 {
-    match x {
-        InWindow::Next { packet: p, rest } => packet(IS, 0, p, rest),
-        InWindow::More { from } => packet(MORE, from, NO_PACKET, NO_REST),
-        InWindow::End => packet(NOTHING, 0, NO_PACKET, NO_REST),
+    let (kind, place, packet, rest) = match x {
+        InWindow::Next(next) => (IS, 0, next.packet, next.rest),
+        InWindow::More { from } => (MORE, from, NO_PACKET, NO_REST),
+        InWindow::End => (NOTHING, 0, NO_PACKET, NO_REST),
+    };
+    PacketAnswer {
+        kind,
+        number: 0,
+        place,
+        packet,
+        rest,
     }
 }
 
@@ -161,26 +146,6 @@ pub struct PacketMetadataAnswer {
     pub rest: Packets,
 }
 
-fn packet_read(
-    kind: u32,
-    number: u32,
-    place: usize,
-    packet: Packet,
-    metadata: MetadataAnswer,
-    rest: Packets,
-) -> PacketMetadataAnswer
-    ensures { result ≡ tells.packet_read kind number place packet metadata rest }
-{
-    PacketMetadataAnswer {
-        kind,
-        number,
-        place,
-        packet,
-        metadata,
-        rest,
-    }
-}
-
 // No reading.
 const NO_METADATA: MetadataAnswer = MetadataAnswer {
     kind: REFUSED,
@@ -190,49 +155,45 @@ const NO_METADATA: MetadataAnswer = MetadataAnswer {
     headers: 0,
 };
 
-pub fn of_next_metadata(x: NextMetadata) -> PacketMetadataAnswer
+pub fn of_next_metadata(x: Option<NextMetadata>) -> PacketMetadataAnswer
     ensures { result ≡ tells.of_next_metadata x }
 {
-    match x {
-        NextMetadata::Is {
-            packet: p,
-            metadata,
-            rest,
-        } => packet_read(IS, 0, 0, p, of_metadata(metadata), rest),
-        NextMetadata::End => packet_read(NOTHING, 0, 0, NO_PACKET, NO_METADATA, NO_REST),
-    }
+    of_metadata_in_window(x.map_or(MetadataInWindow::End, MetadataInWindow::Is))
 }
 
 pub fn of_metadata_in_window(x: MetadataInWindow) -> PacketMetadataAnswer
     ensures { result ≡ tells.of_metadata_in_window x }
 {
-    match x {
-        MetadataInWindow::Is {
-            packet: p,
-            metadata,
-            rest,
-        } => packet_read(IS, 0, 0, p, of_metadata(metadata), rest),
+    let (kind, number, place, packet, metadata, rest) = match x {
+        MetadataInWindow::Is(next) => (
+            IS,
+            0,
+            0,
+            next.packet,
+            of_metadata(next.metadata),
+            next.rest,
+        ),
         MetadataInWindow::OverLimit {
             start,
-            number,
-            place,
+            refusal,
             rest,
-        } => packet_read(
+        } => (
             REFUSED,
-            number,
-            place,
+            refusal.number,
+            refusal.place,
             Packet { start, end: 0 },
             NO_METADATA,
             rest,
         ),
-        MetadataInWindow::More { from } => packet_read(
-            MORE,
-            0,
-            from,
-            NO_PACKET,
-            NO_METADATA,
-            NO_REST,
-        ),
-        MetadataInWindow::End => packet_read(NOTHING, 0, 0, NO_PACKET, NO_METADATA, NO_REST),
+        MetadataInWindow::More { from } => (MORE, 0, from, NO_PACKET, NO_METADATA, NO_REST),
+        MetadataInWindow::End => (NOTHING, 0, 0, NO_PACKET, NO_METADATA, NO_REST),
+    };
+    PacketMetadataAnswer {
+        kind,
+        number,
+        place,
+        packet,
+        metadata,
+        rest,
     }
 }

@@ -1,9 +1,6 @@
 // The questions, a function each: the answer is written, without the end of its line.
-use crate::writing::{write, write_byte, write_decimal, write_hex, write_hex_bytes, write_number};
-use custom_type::Expanded;
-use klv::{Cursor, Header, KLV};
-use last_item::LastItem;
-use line::{Decoded, Number};
+use keys::GroupId;
+use klv::{Cursor, KLV};
 use std::io;
 
 // The last word of every question is in hex.
@@ -11,8 +8,8 @@ pub(crate) fn answer(rt: &impl Print, question: &[u8]) -> io::Result<()> {
     let words = pieces::pieces(question, b' ');
     let mut bytes = [0u8; 8192];
     match words::unhex_word(word(question, if words == 3 { 2 } else { 1 }), &mut bytes) {
-        Decoded::Bytes(count) => answer_of(rt, words, question, words::part(&bytes, 0, count)),
-        _ => write_unknown(rt),
+        Ok(count) => answer_of(rt, words, question, words::part(&bytes, 0, count)),
+        Err(_) => write_unknown(rt),
     }
 }
 
@@ -21,11 +18,11 @@ fn word(question: &[u8], index: usize) -> &[u8] {
 }
 
 fn write_unknown(rt: &impl Print) -> io::Result<()> {
-    write(rt, b"unknown")
+    rt.write_all(b"unknown")
 }
 
 fn write_err(rt: &impl Print) -> io::Result<()> {
-    write(rt, b"err")
+    rt.write_all(b"err")
 }
 
 fn answer_of(rt: &impl Print, words: usize, question: &[u8], bytes: &[u8]) -> io::Result<()> {
@@ -45,49 +42,48 @@ fn answer_of_two(rt: &impl Print, name: &[u8], place: &[u8], bytes: &[u8]) -> io
 }
 
 fn answer_of_one(rt: &impl Print, name: &[u8], bytes: &[u8]) -> io::Result<()> {
-    if name == b"tag".as_slice() {
-        answer_tag(rt, bytes)
-    } else if name == b"group".as_slice() {
-        answer_group(rt, bytes)
-    } else if name == b"last".as_slice() {
-        answer_last(rt, bytes)
-    } else if name == b"expand".as_slice() {
-        answer_expand(rt, bytes)
-    } else {
-        write_unknown(rt)
+    match name {
+        b"tag" => answer_tag(rt, bytes),
+        b"group" => answer_group(rt, bytes),
+        b"last" => answer_last(rt, bytes),
+        b"expand" => answer_expand(rt, bytes),
+        _ => write_unknown(rt),
     }
 }
 
 // header PLACE HEX
 fn answer_header(rt: &impl Print, place: &[u8], payload: &[u8]) -> io::Result<()> {
     match line::decimal_number(place) {
-        Number::Is(asked) => write_header(rt, Cursor::new(asked as usize).parse_header(payload)),
-        Number::NotOne => write_unknown(rt),
+        Some(asked) => write_header(rt, payload, asked as usize),
+        None => write_unknown(rt),
     }
 }
 
-fn write_header(rt: &impl Print, header: Header) -> io::Result<()> {
-    match header {
-        Header::Item(klv) => write_item(rt, klv),
-        _ => write_err(rt),
+fn write_header(rt: &impl Print, payload: &[u8], place: usize) -> io::Result<()> {
+    match Cursor::new(place).parse_header(payload) {
+        Ok(klv) => write_item(rt, klv),
+        Err(_) => write_err(rt),
     }
 }
 
 // ok KEY TYPE SIZE REPEAT LENGTH ALIGNED
 fn write_item(rt: &impl Print, klv: KLV) -> io::Result<()> {
-    write(rt, b"ok ")?;
-    write_hex(rt, klv.key as u64, 8)?;
-    write_number(rt, klv.data_type as u64)?;
-    write_number(rt, klv.size as u64)?;
-    write_number(rt, klv.repeat as u64)?;
-    write_number(rt, klv.data_len() as u64)?;
-    write_number(rt, klv.aligned_data_len() as u64)
+    let KLV {
+        key,
+        data_type,
+        size,
+        repeat,
+    } = klv;
+    let length = klv.data_len();
+    let aligned = klv.aligned_data_len();
+    print!(rt; "ok {key:08x} {data_type} {size} {repeat} {length} {aligned}")
 }
 
 // tag KEY
 fn answer_tag(rt: &impl Print, bytes: &[u8]) -> io::Result<()> {
     if bytes.len() == 4 {
-        write_decimal(rt, keys::tag_id(key_of(bytes)) as u64)
+        let tag = keys::tag_id(key_of(bytes));
+        print!(rt; "{tag}")
     } else {
         write_unknown(rt)
     }
@@ -96,10 +92,8 @@ fn answer_tag(rt: &impl Print, bytes: &[u8]) -> io::Result<()> {
 // group KEY
 fn answer_group(rt: &impl Print, bytes: &[u8]) -> io::Result<()> {
     if bytes.len() == 4 {
-        let group = keys::group_from_key(key_of(bytes));
-        write_decimal(rt, group.number as u64)?;
-        write_byte(rt, b' ')?;
-        write_hex(rt, group.key as u64, 8)
+        let GroupId { number, key } = keys::group_from_key(key_of(bytes));
+        print!(rt; "{number} {key:08x}")
     } else {
         write_unknown(rt)
     }
@@ -112,18 +106,17 @@ fn key_of(bytes: &[u8]) -> u32 {
 // last HEX
 fn answer_last(rt: &impl Print, payload: &[u8]) -> io::Result<()> {
     match last_item::get_last_klv(payload) {
-        LastItem::Nothing => write_slice(rt, 0, payload.len()),
-        LastItem::Last { place, klv: _ } => write_slice(rt, place, payload.len()),
-        _ => write_err(rt),
+        Ok(last) => write_slice(rt, last.map_or(0, |last| last.place), payload.len()),
+        Err(_) => write_err(rt),
     }
 }
 
 // ok PLACE LENGTH, of the slice from a place to the end
 fn write_slice(rt: &impl Print, place: usize, end: usize) -> io::Result<()> {
-    write(rt, b"ok")?;
-    write_number(rt, place as u64)?;
+    print!(rt; "ok {place}")?;
     if place <= end {
-        write_number(rt, (end - place) as u64)?;
+        let length = end - place;
+        print!(rt; " {length}")?;
     }
     Ok(())
 }
@@ -132,12 +125,16 @@ fn write_slice(rt: &impl Print, place: usize, end: usize) -> io::Result<()> {
 fn answer_expand(rt: &impl Print, type_text: &[u8]) -> io::Result<()> {
     let mut written = [0u8; 256];
     match custom_type::resolve_custom_type(type_text, &mut written) {
-        Expanded::TooLong => write(rt, b"long"),
-        Expanded::Characters(length) => write_characters(rt, written, length),
+        Ok(length) => write_characters(rt, words::part(&written, 0, length)),
+        Err(_) => rt.write_all(b"long"),
     }
 }
 
-fn write_characters(rt: &impl Print, written: [u8; 256], length: usize) -> io::Result<()> {
-    write(rt, b"ok t")?;
-    write_hex_bytes(rt, words::part(&written, 0, length))
+// The characters in hex.
+fn write_characters(rt: &impl Print, written: &[u8]) -> io::Result<()> {
+    rt.write_all(b"ok t")?;
+    for b in written {
+        print!(rt; "{b:02x}")?;
+    }
+    Ok(())
 }

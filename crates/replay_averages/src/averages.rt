@@ -1,9 +1,7 @@
 // The average duration of a reading, over a list of packets in words: average COUNT:STAMP:DURATION:MISSING ..
-use crate::writing::write;
-use durations::Average;
 use elements::Element;
-use line::{Decoded, Number};
-use std::io;
+use foundation::refusal::Refusal;
+use std::{array, io};
 
 // The most packets of a question.
 const MOST: usize = 64;
@@ -22,7 +20,7 @@ fn word(question: &[u8], index: usize) -> &[u8] {
 }
 
 fn write_unknown(rt: &impl Print) -> io::Result<()> {
-    write(rt, b"unknown")
+    rt.write_all(b"unknown")
 }
 
 fn answer_average(rt: &impl Print, question: &[u8], words: usize) -> io::Result<()> {
@@ -33,107 +31,52 @@ fn answer_average(rt: &impl Print, question: &[u8], words: usize) -> io::Result<
     }
 }
 
-fn write_average(rt: &impl Print, average: Average) -> io::Result<()> {
+fn write_average(rt: &impl Print, average: Result<Option<f64>, Refusal>) -> io::Result<()> {
     match average {
-        Average::Is(ms) => {
-            write(rt, b"ok d")?;
+        Ok(Some(ms)) => {
             let bits = float_bits::double_bits(ms);
-            print!(rt; "{bits:016x}")
+            print!(rt; "ok d{bits:016x}")
         }
-        Average::Nothing => write(rt, b"none"),
-        _ => write(rt, b"refused"),
+        Ok(None) => rt.write_all(b"none"),
+        Err(_) => rt.write_all(b"refused"),
     }
 }
 
-// The lists have room for more packets than are asked; the shortest says how many there are.
-fn average_of(question: &[u8], words: usize) -> Average {
-    let mut counts = [0u32; 64];
-    let mut stamps = [0u64; 64];
-    fill_counts(question, &mut counts);
-    fill_stamps(question, &mut stamps);
-    average_by(question, words, &counts, &stamps)
+// Lists side by side, as `get_avg_sample_duration` takes them: the C interface.
+// They have room for more packets than are asked; the shortest says how many there are.
+fn average_of(question: &[u8], words: usize) -> Result<Option<f64>, Refusal> {
+    let counts: [u32; MOST] = array::from_fn(|i| count_of(number_in(question, i, 0)));
+    let stamped: [u8; MOST] = array::from_fn(|i| flag(part(question, i, 1), b'-'));
+    let stamps: [u64; MOST] = array::from_fn(|i| number_in(question, i, 1));
+    let durations: [f64; MOST] = array::from_fn(|i| duration_of(part(question, i, 2)));
+    let missing: [u8; MOST] = array::from_fn(|i| flag(part(question, i, 3), b'0'));
+    // the first word is the question's name
+    let packets = words.saturating_sub(1).min(MOST);
+    durations::get_avg_sample_duration(&counts, &stamped[..packets], &stamps, &durations, &missing)
 }
 
-fn average_by(question: &[u8], words: usize, counts: &[u32], stamps: &[u64]) -> Average {
-    let mut stamped = [0u8; 64];
-    let mut durations = [0.0; 64];
-    let mut missing = [0u8; 64];
-    fill_flags(question, &mut stamped, 1, b'-');
-    fill_durations(question, &mut durations);
-    fill_flags(question, &mut missing, 3, b'0');
-    durations::get_avg_sample_duration(
-        counts,
-        first_flags(&stamped, words),
-        stamps,
-        &durations,
-        &missing,
-    )
-}
-
-// As many as there are packets: the first word is the question's name.
-fn first_flags(flags: &[u8], words: usize) -> &[u8] {
-    if words == 0 {
-        return &flags[..0];
-    }
-    words::part(flags, 0, words - 1)
-}
-
-// A part of what is said of the packet at an index.
+// A part of what is said of the packet at an index, whose word stands behind the question's name.
 fn part(question: &[u8], index: usize, at: usize) -> &[u8] {
-    pieces::piece(word(question, index), b':', at)
+    pieces::piece(word(question, index.saturating_add(1)), b':', at)
 }
 
 fn number_in(question: &[u8], index: usize, at: usize) -> u64 {
-    match line::decimal_number(part(question, index, at)) {
-        Number::Is(n) => n,
-        Number::NotOne => 0,
-    }
+    line::decimal_number(part(question, index, at)).unwrap_or(0)
 }
 
-fn fill_counts(question: &[u8], counts: &mut [u32]) {
-    let mut i: usize = 0;
-    while i < counts.len() {
-        counts[i] = (number_in(question, i + 1, 0) % 0x1_0000_0000) as u32;
-        i += 1;
-    }
-}
-
-fn fill_stamps(question: &[u8], stamps: &mut [u64]) {
-    let mut i: usize = 0;
-    while i < stamps.len() {
-        stamps[i] = number_in(question, i + 1, 1);
-        i += 1;
-    }
+fn count_of(n: u64) -> u32 {
+    (n % 0x1_0000_0000) as u32
 }
 
 // 0 where a part is the word for no.
-fn fill_flags(question: &[u8], flags: &mut [u8], at: usize, no: u8) {
-    let mut i: usize = 0;
-    while i < flags.len() {
-        flags[i] = flag(part(question, i + 1, at), no);
-        i += 1;
-    }
-}
-
 fn flag(word: &[u8], no: u8) -> u8 {
-    if word.len() != 1 {
-        return 1;
-    }
-    if word[0] == no { 0 } else { 1 }
-}
-
-fn fill_durations(question: &[u8], durations: &mut [f64]) {
-    let mut i: usize = 0;
-    while i < durations.len() {
-        durations[i] = duration_of(part(question, i + 1, 2));
-        i += 1;
-    }
+    u8::from(word != [no].as_slice())
 }
 
 // The f64 of sixteen hex digits.
 fn duration_of(word: &[u8]) -> f64 {
     let mut bytes = [0u8; 64];
-    let Decoded::Bytes(n) = line::unhex(word, &mut bytes) else {
+    let Ok(n) = line::unhex(word, &mut bytes) else {
         return 0.0;
     };
     match elements::element_at(words::part(&bytes, 0, n), 0, b'd') {

@@ -1,16 +1,15 @@
 // The questions, a function each: the answer is written, without the end of its line.
-use crate::writing::{write, write_byte, write_single};
-use axes::{Axes, Orientation, Orientations};
+use axes::{Axes, Orientations};
 use elements::Element;
-use line::Decoded;
-use std::io;
+use foundation::refusal::Refusal;
+use std::{array, io};
 
 // The first word behind the name is in hex.
 pub(crate) fn answer(rt: &impl Print, question: &[u8]) -> io::Result<()> {
     let mut bytes = [0u8; 8192];
     match words::unhex_word(word(question, 1), &mut bytes) {
-        Decoded::Bytes(count) => answer_of(rt, question, words::part(&bytes, 0, count)),
-        _ => write_unknown(rt),
+        Ok(count) => answer_of(rt, question, words::part(&bytes, 0, count)),
+        Err(_) => write_unknown(rt),
     }
 }
 
@@ -19,17 +18,14 @@ fn word(question: &[u8], index: usize) -> &[u8] {
 }
 
 fn write_unknown(rt: &impl Print) -> io::Result<()> {
-    write(rt, b"unknown")
+    rt.write_all(b"unknown")
 }
 
 fn answer_of(rt: &impl Print, question: &[u8], bytes: &[u8]) -> io::Result<()> {
-    let name = word(question, 0);
-    if name == b"matrix".as_slice() {
-        answer_matrix(rt, bytes, word(question, 2))
-    } else if name == b"back".as_slice() {
-        answer_back(rt, bytes)
-    } else {
-        write_unknown(rt)
+    match word(question, 0) {
+        b"matrix" => answer_matrix(rt, bytes, word(question, 2)),
+        b"back" => answer_back(rt, bytes),
+        _ => write_unknown(rt),
     }
 }
 
@@ -37,81 +33,62 @@ fn answer_of(rt: &impl Print, question: &[u8], bytes: &[u8]) -> io::Result<()> {
 fn answer_matrix(rt: &impl Print, orin: &[u8], hex: &[u8]) -> io::Result<()> {
     let mut orio = [0u8; 64];
     match words::unhex_word(hex, &mut orio) {
-        Decoded::Bytes(count) => write_matrix(
+        Ok(count) => write_matrix(
             rt,
             axes_to_matrix::orientations_of(orin, words::part(&orio, 0, count)),
         ),
-        _ => write_unknown(rt),
+        Err(_) => write_unknown(rt),
     }
 }
 
-fn write_matrix(rt: &impl Print, orientations: Orientations) -> io::Result<()> {
+fn write_matrix(rt: &impl Print, orientations: Result<Orientations, Refusal>) -> io::Result<()> {
     match orientations {
-        Orientations::Are { orin, orio } => write_rows(
+        Ok(Orientations { orin, orio }) => write_rows(
             rt,
             axes_to_matrix::orientations_to_matrix(orin, orio),
         ),
-        _ => write(rt, b"none"),
+        Err(_) => rt.write_all(b"none"),
     }
 }
 
-fn write_rows(rt: &impl Print, matrix: [[f32; 3]; 3]) -> io::Result<()> {
-    write(rt, b"ok ")?;
-    write_row(rt, b'[', matrix[0])?;
-    write_row(rt, b';', matrix[1])?;
-    write_row(rt, b';', matrix[2])?;
-    write_byte(rt, b']')
+fn write_rows(rt: &impl Print, [first, second, third]: [[f32; 3]; 3]) -> io::Result<()> {
+    rt.write_all(b"ok [")?;
+    write_row(rt, first)?;
+    rt.write_all(b";")?;
+    write_row(rt, second)?;
+    rt.write_all(b";")?;
+    write_row(rt, third)?;
+    rt.write_all(b"]")
 }
 
-fn write_row(rt: &impl Print, mark: u8, row: [f32; 3]) -> io::Result<()> {
-    write_single(rt, mark, row[0])?;
-    write_single(rt, b';', row[1])?;
-    write_single(rt, b';', row[2])
+// Each by its bits.
+fn write_row(rt: &impl Print, row: [f32; 3]) -> io::Result<()> {
+    let [x, y, z] = row.map(float_bits::single_bits);
+    print!(rt; "f{x:08x};f{y:08x};f{z:08x}")
 }
 
 // back HEX
 fn answer_back(rt: &impl Print, bytes: &[u8]) -> io::Result<()> {
-    let mut numbers = [0.0; 16];
-    fill(bytes, &mut numbers);
-    write_back(
-        rt,
-        matrix_to_axes::mtrx_to_orientation(first_numbers(&numbers, bytes.len() / 4)),
-    )
+    let numbers: [f32; 16] = array::from_fn(|i| number_at(bytes, i));
+    let count = (bytes.len() / 4).min(numbers.len());
+    write_back(rt, matrix_to_axes::mtrx_to_orientation(&numbers[..count]))
 }
 
-fn write_back(rt: &impl Print, orientation: Orientation) -> io::Result<()> {
-    match orientation {
-        Orientation::Is(axes) => {
+fn write_back(rt: &impl Print, axes: Result<Axes, Refusal>) -> io::Result<()> {
+    match axes {
+        Ok(axes) => {
             let letters = [axes.first, axes.second, axes.third];
-            write(rt, b"ok ")?;
-            write(rt, &letters)
+            rt.write_all(b"ok ")?;
+            rt.write_all(&letters)
         }
-        _ => write(rt, b"panic"),
+        Err(_) => rt.write_all(b"panic"),
     }
 }
 
-fn fill(bytes: &[u8], numbers: &mut [f32]) {
-    let mut i: usize = 0;
-    while i < numbers.len() {
-        numbers[i] = number_at(bytes, i);
-        i += 1;
-    }
-}
-
-// The i-th of sixteen numbers, 0 where its bytes are not there.
+// The number at an index, 0 where its bytes are not there.
 fn number_at(bytes: &[u8], i: usize) -> f32 {
-    if i > 15 {
-        return 0.0;
-    }
-    match elements::element_at(bytes, i * 4, b'f') {
+    match elements::element_at(bytes, i.saturating_mul(4), b'f') {
         Element::Single(x) => x,
         _ => 0.0,
     }
-}
-
-fn first_numbers(s: &[f32], count: usize) -> &[f32] {
-    if s.len() < count {
-        return s;
-    }
-    &s[0..count]
 }

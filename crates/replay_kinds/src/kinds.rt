@@ -1,82 +1,78 @@
 // The Rust's names for the kinds of values, with the type where it is a part of the name.
-use rows::RowAt;
+use rows::Row;
 use std::io;
-use value::{Kind, Shape, Shaped};
+use value::{Kind, Shape};
 
+// The lent numbers and how many rows they hold, as `row_at` and `lookup` of `rows` take them: the C interface.
 pub(crate) fn write_kinds(
     rt: &impl Print,
     payload: &[u8],
     rows: &[u32],
     count: usize,
 ) -> io::Result<()> {
-    let mut n: usize = 0;
-    while n < count {
-        write_kind(rt, payload, rows::row_at(rows, n))?;
-        n += 1;
+    for row in (0..count).filter_map(|n| rows::row_at(rows, n)) {
+        write_kind(rt, payload, row)?;
     }
     Ok(())
 }
 
-pub(crate) fn write(rt: &impl Print, s: &[u8]) -> io::Result<()> {
-    rt.write_all(s)
-}
-
 // VARIANT of a row's value, with a space before it; the letter of its type stands in the row
-fn write_kind(rt: &impl Print, payload: &[u8], row: RowAt) -> io::Result<()> {
-    let RowAt::Is(row) = row else {
-        return Ok(());
-    };
-    write(rt, b" ")?;
+fn write_kind(rt: &impl Print, payload: &[u8], row: Row) -> io::Result<()> {
     match values::shape_at(payload, row.place as usize, row.type_place as usize) {
-        Shaped::Is(shape) => write_name(rt, shape, (row.shape / 0x100_0000) as u8),
-        _ => write(rt, b"-"),
+        Ok(shape) => write_name(rt, shape, (row.shape / 0x100_0000) as u8),
+        Err(_) => rt.write_all(b" -"),
     }
 }
 
 fn write_name(rt: &impl Print, shape: Shape, letter: u8) -> io::Result<()> {
-    let kinds: &[u8] =
-        b" Vec_ Vec_Vector3_ Vec_TimeVector3_ Vec_Vec_ String Vec_String Uuid u64 Vec_Quaternioni16 Vec_Scalar Vec_Vec_Scalar Unknown";
-    let types: &[u8] = b" i8 u8 i16 u16 i32 u32 i64 u64 f32 f64";
-    let index = kind_index(shape);
-    write(rt, pieces::piece(kinds, b' ', index))?;
-    write(rt, pieces::piece(types, b' ', type_index(index, letter)))
+    let kind = kind_name(shape);
+    let number = number_name(shape.kind, letter);
+    print!(rt; " {kind}{number}")
 }
 
-// The place of a kind's name among those of `write_name`.
-fn kind_index(shape: Shape) -> usize {
-    let kind = shape.kind;
+fn kind_name(shape: Shape) -> &'static str {
+    match shape.kind {
+        Kind::Single => "",
+        Kind::List => "Vec_",
+        Kind::Vector => "Vec_Vector3_",
+        Kind::TimedVector => "Vec_TimeVector3_",
+        Kind::Nested => "Vec_Vec_",
+        Kind::Text => "String",
+        Kind::Texts => "Vec_String",
+        Kind::Identifier => "Uuid",
+        Kind::DateTime => "u64",
+        Kind::Quaternions => "Vec_Quaternioni16",
+        Kind::Structures => if shape.rows == 1 {
+            "Vec_Scalar"
+        } else {
+            "Vec_Vec_Scalar"
+        }
+        Kind::Unknown => "Unknown",
+    }
+}
+
+// The Rust's type of a letter's numbers: only kinds of numbers of one letter are named with it.
+fn number_name(kind: Kind, letter: u8) -> &'static str {
     match kind {
-        Kind::Single => 0,
-        Kind::List => 1,
-        Kind::Vector => 2,
-        Kind::TimedVector => 3,
-        Kind::Nested => 4,
-        Kind::Text => 5,
-        Kind::Texts => 6,
-        Kind::Identifier => 7,
-        Kind::DateTime => 8,
-        Kind::Quaternions => 9,
-        Kind::Structures => { if shape.rows == 1 { 10 } else { 11 } }
-        Kind::Unknown => 12,
+        Kind::Single | Kind::List | Kind::Vector | Kind::TimedVector | Kind::Nested => {
+            type_name(letter)
+        }
+        _ => "",
     }
 }
 
-// The place of a type's name: only kinds up to the fifth are named with their type.
-fn type_index(kind: usize, letter: u8) -> usize {
-    if kind > 4 {
-        return 0;
-    }
+fn type_name(letter: u8) -> &'static str {
     match letter {
-        b'b' => 1,
-        b'B' => 2,
-        b's' => 3,
-        b'S' => 4,
-        b'l' => 5,
-        b'L' => 6,
-        b'j' => 7,
-        b'J' => 8,
-        b'f' | b'q' => 9,
-        b'd' | b'Q' => 10,
-        _ => 0,
+        b'b' => "i8",
+        b'B' => "u8",
+        b's' => "i16",
+        b'S' => "u16",
+        b'l' => "i32",
+        b'L' => "u32",
+        b'j' => "i64",
+        b'J' => "u64",
+        b'f' | b'q' => "f32",
+        b'd' | b'Q' => "f64",
+        _ => "",
     }
 }

@@ -1,9 +1,7 @@
 // The one question: oriented HEX. The answer is written, without the end of its line.
 use axes::Axes;
-use line::Decoded;
-use metadata::Metadata;
-use orientation::Oriented;
 use std::io;
+use tagged::Group;
 
 const GYRO: u32 = 0x4759524f;
 
@@ -11,85 +9,59 @@ const ACCL: u32 = 0x4143434c;
 
 const MAGN: u32 = 0x4d41474e;
 
-// The name takes nine bytes, with the space behind it.
 pub(crate) fn answer(rt: &impl Print, question: &[u8]) -> io::Result<()> {
-    if words::part(question, 0, 9) == b"oriented ".as_slice() {
-        answer_oriented(rt, words::part(question, 9, question.len()))
-    } else {
-        write_unknown(rt)
+    match question.strip_prefix(b"oriented ".as_slice()) {
+        Some(hex) => answer_oriented(rt, hex),
+        None => write_unknown(rt),
     }
 }
 
-pub(crate) fn write(rt: &impl Print, s: &[u8]) -> io::Result<()> {
-    rt.write_all(s)
-}
-
 fn write_unknown(rt: &impl Print) -> io::Result<()> {
-    write(rt, b"unknown")
+    rt.write_all(b"unknown")
 }
 
 fn answer_oriented(rt: &impl Print, hex: &[u8]) -> io::Result<()> {
     let mut payload = [0u8; 8192];
     match words::unhex_word(hex, &mut payload) {
-        Decoded::Bytes(count) => write_reading(rt, words::part(&payload, 0, count)),
-        _ => write_unknown(rt),
+        Ok(count) => write_reading(rt, words::part(&payload, 0, count)),
+        Err(_) => write_unknown(rt),
     }
 }
 
 fn write_reading(rt: &impl Print, payload: &[u8]) -> io::Result<()> {
     let mut rows = [0u32; 16384];
     match metadata::parse_metadata(payload, false, &mut rows) {
-        Metadata::Rows {
-            rows: count,
-            headers: _,
-        } => write_oriented(rt, payload, &rows, count),
-        _ => write(rt, b"err"),
+        Ok(reading) => write_oriented(
+            rt,
+            Group {
+                payload,
+                rows: &rows,
+                count: reading.rows,
+                kind: 1,
+                key: GYRO,
+            },
+        ),
+        Err(_) => rt.write_all(b"err"),
     }
 }
 
 // Where the Rust panics, some group is refused.
-fn write_oriented(rt: &impl Print, payload: &[u8], rows: &[u32], count: usize) -> io::Result<()> {
-    let gyroscope = orientation::orientation_of_group(payload, rows, count, 1, GYRO);
-    let accelerometer = orientation::orientation_of_group(payload, rows, count, 1, ACCL);
-    let magnetometer = orientation::orientation_of_group(payload, rows, count, 1, MAGN);
-    if is_refused(gyroscope) || is_refused(accelerometer) || is_refused(magnetometer) {
-        write(rt, b"panic")
-    } else {
-        write_groups(rt, gyroscope, accelerometer, magnetometer)
+fn write_oriented(rt: &impl Print, group: Group) -> io::Result<()> {
+    match [GYRO, ACCL, MAGN].map(|key| orientation::orientation_of_group(Group { key, ..group })) {
+        [Ok(gyroscope), Ok(accelerometer), Ok(magnetometer)] => {
+            rt.write_all(b"ok")?;
+            write_axes(rt, gyroscope, b" GYRO=")?;
+            write_axes(rt, accelerometer, b" ACCL=")?;
+            write_axes(rt, magnetometer, b" MAGN=")
+        }
+        _ => rt.write_all(b"panic"),
     }
 }
 
-fn write_groups(
-    rt: &impl Print,
-    gyroscope: Oriented,
-    accelerometer: Oriented,
-    magnetometer: Oriented,
-) -> io::Result<()> {
-    write(rt, b"ok")?;
-    write_axes(rt, gyroscope, b" GYRO=")?;
-    write_axes(rt, accelerometer, b" ACCL=")?;
-    write_axes(rt, magnetometer, b" MAGN=")
-}
-
-fn is_refused(oriented: Oriented) -> bool {
-    match oriented {
-        Oriented::Refused {
-            number: _,
-            place: _,
-        } => true,
-        _ => false,
-    }
-}
-
-fn write_axes(rt: &impl Print, oriented: Oriented, name: &[u8]) -> io::Result<()> {
-    if let Oriented::Is(axes) = oriented {
-        write(rt, name)?;
-        write_letters(rt, axes)?;
+fn write_axes(rt: &impl Print, axes: Option<Axes>, name: &[u8]) -> io::Result<()> {
+    if let Some(axes) = axes {
+        rt.write_all(name)?;
+        rt.write_all(&[axes.first, axes.second, axes.third])?;
     }
     Ok(())
-}
-
-fn write_letters(rt: &impl Print, axes: Axes) -> io::Result<()> {
-    let letters = [axes.first, axes.second, axes.third];
-    write(rt, &letters)
 }

@@ -1,103 +1,76 @@
 // The one question: quat HEX. The answer is written, without the end of its line.
-use crate::writing::{write, write_byte, write_double};
-use line::Decoded;
-use metadata::Metadata;
-use quaternions::ScaledRow;
 use scaling::Quaternion;
 use std::io;
+use tagged::Group;
 
 const CORI: u32 = 0x434f5249;
 
 const IORI: u32 = 0x494f5249;
 
-// The name takes five bytes, with the space behind it.
 pub(crate) fn answer(rt: &impl Print, question: &[u8]) -> io::Result<()> {
-    if words::part(question, 0, 5) == b"quat ".as_slice() {
-        answer_quaternions(rt, words::part(question, 5, question.len()))
-    } else {
-        write_unknown(rt)
+    match question.strip_prefix(b"quat ".as_slice()) {
+        Some(hex) => answer_quaternions(rt, hex),
+        None => write_unknown(rt),
     }
 }
 
 fn write_unknown(rt: &impl Print) -> io::Result<()> {
-    write(rt, b"unknown")
+    rt.write_all(b"unknown")
 }
 
 fn answer_quaternions(rt: &impl Print, hex: &[u8]) -> io::Result<()> {
     let mut payload = [0u8; 8192];
     match words::unhex_word(hex, &mut payload) {
-        Decoded::Bytes(count) => write_reading(rt, words::part(&payload, 0, count)),
-        _ => write_unknown(rt),
+        Ok(count) => write_reading(rt, words::part(&payload, 0, count)),
+        Err(_) => write_unknown(rt),
     }
 }
 
 fn write_reading(rt: &impl Print, payload: &[u8]) -> io::Result<()> {
     let mut rows = [0u32; 16384];
     match metadata::parse_metadata(payload, false, &mut rows) {
-        Metadata::Rows {
-            rows: count,
-            headers: _,
-        } => {
-            write(rt, b"ok")?;
-            write_group(rt, payload, &rows, count, CORI, b" CORI=[")?;
-            write_group(rt, payload, &rows, count, IORI, b" IORI=[")
+        Ok(reading) => {
+            let cori = Group {
+                payload,
+                rows: &rows,
+                count: reading.rows,
+                kind: 1,
+                key: CORI,
+            };
+            rt.write_all(b"ok")?;
+            write_group(rt, cori, b" CORI=[")?;
+            write_group(rt, Group { key: IORI, ..cori }, b" IORI=[")
         }
-        _ => write(rt, b"err"),
+        Err(_) => rt.write_all(b"err"),
     }
 }
 
 // The quaternions of a group, where it has any.
-fn write_group(
-    rt: &impl Print,
-    payload: &[u8],
-    rows: &[u32],
-    count: usize,
-    key: u32,
-    name: &[u8],
-) -> io::Result<()> {
-    if let ScaledRow::Nothing = quaternions::scaled_quaternion(payload, rows, count, 1, key, 0) {
+fn write_group(rt: &impl Print, group: Group, name: &[u8]) -> io::Result<()> {
+    if let Ok(None) = quaternions::scaled_quaternion(group, 0) {
         return Ok(());
     }
-    write(rt, name)?;
-    write_list(rt, payload, rows, count, key)?;
-    write_byte(rt, b']')
+    rt.write_all(name)?;
+    write_list(rt, group)?;
+    rt.write_all(b"]")
 }
 
 // Row after row, up to the first that is refused: it lies outside the value.
-fn write_list(
-    rt: &impl Print,
-    payload: &[u8],
-    rows: &[u32],
-    count: usize,
-    key: u32,
-) -> io::Result<()> {
-    let mut row: usize = 0;
-    while row < 65536 {
-        match quaternions::scaled_quaternion(payload, rows, count, 1, key, row) {
-            ScaledRow::Is(q) => {
-                write_between(rt, row)?;
-                write_quaternion(rt, q)?;
-                row += 1;
-            }
-            _ => {
-                row = 65536;
-            }
+fn write_list(rt: &impl Print, group: Group) -> io::Result<()> {
+    for row in 0..65536 {
+        let Ok(Some(q)) = quaternions::scaled_quaternion(group, row) else {
+            return Ok(());
+        };
+        if row > 0 {
+            rt.write_all(b";")?;
         }
+        write_quaternion(rt, q)?;
     }
     Ok(())
 }
 
-fn write_between(rt: &impl Print, index: usize) -> io::Result<()> {
-    if index > 0 {
-        write_byte(rt, b';')?;
-    }
-    Ok(())
-}
-
+// Each of its numbers by its bits.
 fn write_quaternion(rt: &impl Print, q: Quaternion) -> io::Result<()> {
-    write_double(rt, b'[', q.w)?;
-    write_double(rt, b';', q.x)?;
-    write_double(rt, b';', q.y)?;
-    write_double(rt, b';', q.z)?;
-    write_byte(rt, b']')
+    let [w, x, y, z] = [q.w, q.x, q.y, q.z].map(float_bits::double_bits);
+    print!(rt; "[d{w:016x};d{x:016x};d{y:016x};d{z:016x}]")
 }

@@ -1,55 +1,36 @@
 // The rows of a payload as the oracle prints the items that the Rust puts in, and which of them its map has.
-use crate::writing::{write, write_byte, write_decimal, write_hex, write_hex_bytes};
 use klv::{Cursor, KLV};
-use rows::{Found, Row, RowAt};
+use rows::Row;
 use std::io;
 
+// The lent numbers and how many rows they hold, as `row_at` and `lookup` of `rows` take them: the C interface.
 pub(crate) fn write_rows(
     rt: &impl Print,
     payload: &[u8],
     rows: &[u32],
     count: usize,
 ) -> io::Result<()> {
-    let mut n: usize = 0;
-    while n < count {
-        write_row(rt, payload, rows, count, n)?;
-        n += 1;
+    for n in 0..count {
+        if let Some(row) = rows::row_at(rows, n) {
+            write_row(rt, payload, row, is_kept(rows, count, row, n))?;
+        }
     }
     Ok(())
 }
 
 // GROUP,TAG,KEY,RAW,KEPT, with a space before them
-fn write_row(
-    rt: &impl Print,
-    payload: &[u8],
-    rows: &[u32],
-    count: usize,
-    n: usize,
-) -> io::Result<()> {
-    if let RowAt::Is(row) = rows::row_at(rows, n) {
-        write_key(rt, row)?;
-        write_raw(rt, payload, row)?;
-        write_byte(rt, b',')?;
-        write_byte(rt, kept(rows, count, row, n))?;
-    }
-    Ok(())
-}
-
-fn write_key(rt: &impl Print, row: Row) -> io::Result<()> {
-    write_byte(rt, b' ')?;
+fn write_row(rt: &impl Print, payload: &[u8], row: Row, kept: bool) -> io::Result<()> {
     write_group(rt, row)?;
-    write_byte(rt, b',')?;
-    write_decimal(rt, row.tag as u64)?;
-    write_byte(rt, b',')?;
-    write_hex(rt, row.key as u64, 8)?;
-    write_byte(rt, b',')
+    print!(rt; ",{},{:08x},", row.tag, row.key)?;
+    write_raw(rt, payload, row)?;
+    print!(rt; ",{}", u8::from(kept))
 }
 
 fn write_group(rt: &impl Print, row: Row) -> io::Result<()> {
     if row.group_kind == 0 {
-        write_byte(rt, b'-')
+        rt.write_all(b" -")
     } else {
-        write_hex(rt, row.group_key as u64, 8)
+        print!(rt; " {:08x}", row.group_key)
     }
 }
 
@@ -61,17 +42,14 @@ fn write_raw(rt: &impl Print, payload: &[u8], row: Row) -> io::Result<()> {
         size: (row.shape / 65536 % 256) as u8,
         repeat: (row.shape % 65536) as u16,
     };
-    write_hex_bytes(
-        rt,
-        words::part(payload, row.place as usize, Cursor::HEADER + klv.data_len()),
-    )
+    for b in words::part(payload, row.place as usize, Cursor::HEADER + klv.data_len()) {
+        print!(rt; "{b:02x}")?;
+    }
+    Ok(())
 }
 
-// 1 where a row is the one that lookup finds for its group, tag and key, and else 0.
-fn kept(rows: &[u32], count: usize, row: Row, n: usize) -> u8 {
+// Whether a row is the one that lookup finds for its group, tag and key.
+fn is_kept(rows: &[u32], count: usize, row: Row, n: usize) -> bool {
     let found = rows::lookup(rows, count, row.group_kind, row.group_key, row.tag, row.key);
-    match found {
-        Found::At(last) => if last == n { b'1' } else { b'0' },
-        _ => b'0',
-    }
+    found == Ok(Some(n))
 }

@@ -1,36 +1,26 @@
 // The one question: rows FORCED HEX. The answer is written, without the end of its line.
 use crate::items;
-use crate::writing::{write, write_decimal};
-use line::Decoded;
-use metadata::Metadata;
 use std::io;
 
-// The name and the forcing take seven bytes.
 pub(crate) fn answer(rt: &impl Print, question: &[u8]) -> io::Result<()> {
-    let mut payload = [0u8; 8192];
-    match words::unhex_word(words::part(question, 7, question.len()), &mut payload) {
-        Decoded::Bytes(count) => {
-            answer_of(
-                rt,
-                words::part(question, 0, 7),
-                words::part(&payload, 0, count),
-            )
-        }
-        _ => write_unknown(rt),
+    if let Some(hex) = question.strip_prefix(b"rows 0 ".as_slice()) {
+        answer_rows(rt, hex, false)
+    } else if let Some(hex) = question.strip_prefix(b"rows 1 ".as_slice()) {
+        answer_rows(rt, hex, true)
+    } else {
+        write_unknown(rt)
     }
 }
 
 fn write_unknown(rt: &impl Print) -> io::Result<()> {
-    write(rt, b"unknown")
+    rt.write_all(b"unknown")
 }
 
-fn answer_of(rt: &impl Print, asked: &[u8], payload: &[u8]) -> io::Result<()> {
-    if asked == b"rows 0 ".as_slice() {
-        write_reading(rt, payload, false)
-    } else if asked == b"rows 1 ".as_slice() {
-        write_reading(rt, payload, true)
-    } else {
-        write_unknown(rt)
+fn answer_rows(rt: &impl Print, hex: &[u8], forced: bool) -> io::Result<()> {
+    let mut payload = [0u8; 8192];
+    match words::unhex_word(hex, &mut payload) {
+        Ok(count) => write_reading(rt, words::part(&payload, 0, count), forced),
+        Err(_) => write_unknown(rt),
     }
 }
 
@@ -38,14 +28,10 @@ fn write_reading(rt: &impl Print, payload: &[u8], forced: bool) -> io::Result<()
     // room for 1,024 rows: more than the bytes of a question have
     let mut rows = [0u32; 8192];
     match metadata::parse_metadata(payload, forced, &mut rows) {
-        Metadata::Rows {
-            rows: count,
-            headers,
-        } => {
-            write(rt, b"ok h=")?;
-            write_decimal(rt, headers as u64)?;
-            items::write_rows(rt, payload, &rows, count)
+        Ok(read) => {
+            print!(rt; "ok h={}", read.headers)?;
+            items::write_rows(rt, payload, &rows, read.rows)
         }
-        _ => write(rt, b"err"),
+        Err(_) => rt.write_all(b"err"),
     }
 }

@@ -15,25 +15,17 @@ fn main(rt: HostRuntime) -> io::Result<()> {
     answer_all(&rt, words::part(&input, 0, count as usize))
 }
 
+// A function of its own: with the array in `main` the proof of that does not close.
 fn input_buffer() -> [u8; 1048576] {
     [0u8; 1048576]
 }
 
+// An empty line has no answer. Each replay has this for itself: a public function that takes what answers would have a
+// `requires`, and none has one.
 fn answer_all(rt: &impl Print, input: &[u8]) -> io::Result<()> {
-    let mut from: usize = 0;
-    while from < input.len() {
-        let question = words::line_from(input, from);
-        answer_line(rt, question)?;
-        from += question.len() + 1;
-    }
-    Ok(())
-}
-
-// An empty line has no answer.
-fn answer_line(rt: &impl Print, question: &[u8]) -> io::Result<()> {
-    if question.len() > 0 {
+    for question in input.split(|b| *b == b'\n').filter(|line| !line.is_empty()) {
         stamp::answer(rt, question)?;
-        stamp::write(rt, b"\n")?;
+        rt.write_all(b"\n")?;
     }
     Ok(())
 }

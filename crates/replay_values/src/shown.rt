@@ -1,102 +1,64 @@
 // Values as the oracle prints them: row by row, each element behind a letter for its form.
-use crate::writing::{write, write_byte, write_decimal, write_hex, write_signed};
 use elements::Element;
-use rows::RowAt;
+use rows::Row;
 use std::io;
-use value::{Count, Read, Shaped};
+use view::View;
 
+// The lent numbers and how many rows they hold, as `row_at` and `lookup` of `rows` take them: the C interface.
 pub(crate) fn write_items(
     rt: &impl Print,
     payload: &[u8],
     rows: &[u32],
     count: usize,
 ) -> io::Result<()> {
-    let mut n: usize = 0;
-    while n < count {
-        write_item(rt, payload, rows::row_at(rows, n))?;
-        n += 1;
+    for row in (0..count).filter_map(|n| rows::row_at(rows, n)) {
+        write_item(rt, payload, row)?;
     }
     Ok(())
 }
 
 // The value of a row's item, with a space before it
-fn write_item(rt: &impl Print, payload: &[u8], row: RowAt) -> io::Result<()> {
-    let RowAt::Is(row) = row else {
-        return Ok(());
-    };
-    let place = row.place as usize;
-    let type_place = row.type_place as usize;
-    match values::shape_at(payload, place, type_place) {
-        Shaped::Is(shape) => {
-            write_byte(rt, b' ')?;
-            write_decimal(rt, shape.rows as u64)?;
-            write_rows(rt, payload, place, type_place, shape.rows)
+fn write_item(rt: &impl Print, payload: &[u8], row: Row) -> io::Result<()> {
+    let value = View::new(payload, row.place as usize, row.type_place as usize);
+    match value.shape() {
+        Ok(shape) => {
+            let rows = shape.rows;
+            print!(rt; " {rows}")?;
+            write_rows(rt, value, rows)
         }
-        _ => write(rt, b" err"),
+        Err(_) => rt.write_all(b" err"),
     }
 }
 
-fn write_rows(
-    rt: &impl Print,
-    payload: &[u8],
-    place: usize,
-    type_place: usize,
-    rows: usize,
-) -> io::Result<()> {
-    let mut row: usize = 0;
-    while row < rows {
-        write_byte(rt, b'/')?;
-        write_columns(rt, payload, place, type_place, row)?;
-        row += 1;
+fn write_rows(rt: &impl Print, value: View, rows: usize) -> io::Result<()> {
+    for row in 0..rows {
+        rt.write_all(b"/")?;
+        write_columns(rt, value, row)?;
     }
     Ok(())
 }
 
-fn write_columns(
-    rt: &impl Print,
-    payload: &[u8],
-    place: usize,
-    type_place: usize,
-    row: usize,
-) -> io::Result<()> {
-    let columns = columns_of(payload, place, type_place, row);
-    let mut column: usize = 0;
-    while column < columns {
-        write_element(rt, values::element(payload, place, type_place, row, column))?;
-        column += 1;
+fn write_columns(rt: &impl Print, value: View, row: usize) -> io::Result<()> {
+    // none where there is no such row
+    let columns = value.columns(row).unwrap_or(0);
+    for element in (0..columns).filter_map(|column| value.element(row, column).ok()) {
+        write_element(rt, element)?;
     }
     Ok(())
-}
-
-// The columns of a row; none where there is no such row.
-fn columns_of(payload: &[u8], place: usize, type_place: usize, row: usize) -> usize {
-    match values::columns_at(payload, place, type_place, row) {
-        Count::Are(columns) => columns,
-        _ => 0,
-    }
 }
 
 // Bits in hex, whole numbers in decimal, behind a letter for their form.
-fn write_element(rt: &impl Print, read: Read) -> io::Result<()> {
-    let Read::Is(element) = read else {
-        return Ok(());
-    };
+fn write_element(rt: &impl Print, element: Element) -> io::Result<()> {
     match element {
-        Element::Signed(n) => {
-            write_byte(rt, b'i')?;
-            write_signed(rt, n)
-        }
-        Element::Unsigned(n) => {
-            write_byte(rt, b'u')?;
-            write_decimal(rt, n)
-        }
+        Element::Signed(n) => print!(rt; "i{n}"),
+        Element::Unsigned(n) => print!(rt; "u{n}"),
         Element::Single(x) => {
-            write_byte(rt, b'f')?;
-            write_hex(rt, float_bits::single_bits(x) as u64, 8)
+            let bits = float_bits::single_bits(x);
+            print!(rt; "f{bits:08x}")
         }
         Element::Double(x) => {
-            write_byte(rt, b'd')?;
-            write_hex(rt, float_bits::double_bits(x), 16)
+            let bits = float_bits::double_bits(x);
+            print!(rt; "d{bits:016x}")
         }
     }
 }

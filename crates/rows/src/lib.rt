@@ -7,9 +7,11 @@ ghost use Rattle.reading.specs.Walk.{room_of};
 ghost use Rattle.rows.specs.Row.{row_of, row_at, Put};
 ghost use Rattle.rows.specs.Lookup.{matching, lookup_of};
 
+use foundation::refusal::{Fault, Refusal};
+
 // What the walk says of an item.
 #[repr(C)]
-#[derive(Clone, Copy)]
+#[derive(Clone, Copy, PartialEq, Eq, Debug)]
 pub struct Row {
     pub place: u32,
     pub group_kind: u32,
@@ -29,15 +31,11 @@ impl Row {
 // The most rows of a call, whatever is lent.
 const MOST_ROWS: usize = 4096;
 
-// The refusal of a row that does not fit the room.
-const NO_ROOM: u32 = 5;
-
 // How many rows there is room for in so many lent numbers.
 pub fn room(numbers: usize) -> usize
     ensures { result ≡ room_of numbers }
 {
-    let rows = numbers / Row::WIDTH;
-    if rows < MOST_ROWS { rows } else { MOST_ROWS }
+    (numbers / Row::WIDTH).min(MOST_ROWS)
 }
 
 // Stores a row as the n-th where there is room for it, and says whether there is.
@@ -46,14 +44,17 @@ pub fn put_row(out: &mut [u32], n: usize, row: Row) -> bool
 {
     if n < room(out.len()) {
         let at = n * Row::WIDTH;
-        out[at] = row.place;
-        out[at + 1] = row.group_kind;
-        out[at + 2] = row.group_key;
-        out[at + 3] = row.tag;
-        out[at + 4] = row.key;
-        out[at + 5] = row.shape;
-        out[at + 6] = row.type_place;
-        out[at + 7] = row.depth;
+        let numbers = [
+            row.place,
+            row.group_kind,
+            row.group_key,
+            row.tag,
+            row.key,
+            row.shape,
+            row.type_place,
+            row.depth,
+        ];
+        out[at..at + Row::WIDTH].copy_from_slice(&numbers);
         return true;
     }
     false
@@ -77,56 +78,28 @@ fn take_row(rows: &[u32], n: usize) -> Row
     }
 }
 
-// What stands at a row's index.
-#[derive(Clone, Copy)]
-pub enum RowAt {
-    Is(Row),
-    // the lent numbers have no room for such a row
-    Outside,
-}
-
-// The n-th row.
-pub fn row_at(rows: &[u32], n: usize) -> RowAt
+// The n-th row, where the lent numbers have room for it.
+pub fn row_at(rows: &[u32], n: usize) -> Option<Row>
     ensures { result ≡ row_at rows.now n }
 {
     if n < room(rows.len()) {
-        return RowAt::Is(take_row(rows, n));
+        return Some(take_row(rows, n));
     }
-    RowAt::Outside
+    None
 }
 
 // Whether a row is one of the group and the tag asked for: under tag 0 the key decides.
+#[tactic(auto, using(std::proofs::lemmas::Bool::Decides::nat_tests), unfolding(crate::specs::Lookup::matching))]
 fn matches(row: Row, group_kind: u32, group_key: u32, tag: u32, key: u32) -> bool
     ensures { result ≡ matching group_kind group_key tag key row }
 {
-    if row.group_kind != group_kind {
-        return false;
-    }
-    if row.group_key != group_key {
-        return false;
-    }
-    if row.tag != tag {
-        return false;
-    }
-    if tag != 0 {
-        return true;
-    }
-    if row.key != key {
-        return false;
-    }
-    true
+    row.group_kind == group_kind
+        && row.group_key == group_key
+        && row.tag == tag
+        && (tag != 0 || row.key == key)
 }
 
-// What a lookup finds.
-#[derive(Clone, Copy)]
-pub enum Found {
-    // the index of a row
-    At(usize),
-    Nothing,
-    Refused { number: u32, place: usize },
-}
-
-// The last of the first `count` rows that is of a group and a tag, and under tag 0 of a key.
+// The index of the last of the first `count` rows that is of a group and a tag, and under tag 0 of a key.
 pub fn lookup(
     rows: &[u32],
     count: usize,
@@ -134,21 +107,16 @@ pub fn lookup(
     group_key: u32,
     tag: u32,
     key: u32,
-) -> Found
+) -> Result<Option<usize>, Refusal>
     ensures { result ≡ lookup_of group_kind group_key tag key rows.now count }
 {
     if room(rows.len()) < count {
-        return Found::Refused {
-            number: NO_ROOM,
-            place: 0,
-        };
+        return Err(Fault::NoRoom.at(0));
     }
-    let mut n = count;
-    while 0 < n {
-        n -= 1;
+    for n in (0..count).rev() {
         if matches(take_row(rows, n), group_kind, group_key, tag, key) {
-            return Found::At(n);
+            return Ok(Some(n));
         }
     }
-    Found::Nothing
+    Ok(None)
 }

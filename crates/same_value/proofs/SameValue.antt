@@ -6,8 +6,8 @@ use mathlib.Core.Bool.{Bool, true, false, cond, ◌&&◌}
 use mathlib.Core.List.{List, Memᴰ}
 use lib.Dec.{ltb}
 use Rattle.reading.specs.Record.{Record}
-use Rattle.value.specs.declared.Read.TheVariants as read
-use Rattle.value.specs.declared.Count.TheVariants as columns
+use Rattle.std.specs.Prelude.{Ok}
+use Rattle.foundation.specs.Refusals.{refuse}
 use Rattle.value.specs.Value.{ValueOutcome, readable, refused, value_of}
 use Rattle.value.specs.Answer.{element_in, shape_in, columns_in}
 use Rattle.newer_camera.specs.PutIn.{PutIn}
@@ -21,7 +21,7 @@ module _ (at place : ℕ) where
   element_told (refused number) row column = refl
   element_told (readable v) row column = go (ltb row v.rows && ltb column (v.columns row))
     where
-      go : (b : Bool) → cond b (read.Is (v.element row column)) (read.Refused 13 place) ≡ element_at_place (cond b (read.Is (v.element row column)) (read.Refused 13 at)) place
+      go : (b : Bool) → cond b (Ok (v.element row column)) (refuse 13 place) ≡ element_at_place (cond b (Ok (v.element row column)) (refuse 13 at)) place
       go true = refl
       go false = refl
 
@@ -33,7 +33,7 @@ module _ (at place : ℕ) where
   columns_told (refused number) row = refl
   columns_told (readable v) row = go (ltb row v.rows)
     where
-      go : (b : Bool) → cond b (columns.Are (v.columns row)) (columns.Refused 13 place) ≡ columns_at_place (cond b (columns.Are (v.columns row)) (columns.Refused 13 at)) place
+      go : (b : Bool) → cond b (Ok (v.columns row)) (refuse 13 place) ≡ columns_at_place (cond b (Ok (v.columns row)) (refuse 13 at)) place
       go true = refl
       go false = refl
 

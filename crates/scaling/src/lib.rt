@@ -6,7 +6,7 @@ ghost use Rattle.std.specs.Prelude.{◌≡◌};
 ghost use Rattle.scaling.specs.Quaternion.{negated16, scaled_by};
 
 #[repr(C)]
-#[derive(Clone, Copy)]
+#[derive(Clone, Copy, PartialEq)]
 pub struct Quaternion {
     pub w: f64,
     pub x: f64,
@@ -18,7 +18,7 @@ pub struct Quaternion {
 pub fn negated(x: i16) -> i16
     ensures { result ≡ negated16 x }
 {
-    if x == -32768 { x } else { 0 - x }
+    x.wrapping_neg()
 }
 
 // The numbers of a quaternion by a scale, x negated first.

@@ -2,20 +2,12 @@
 ghost use Rattle.std.specs.Prelude.{◌≡◌, cond, ◌+◌, ◌≤◌, max, length, drop};
 ghost use Rattle.search.specs.Search.{devc, begins, find_from, or_else, with_left};
 
-use crate::Found;
-
 // The places left where DEVC begins at a place, and 0 where it does not.
 fn left_at(s: &[u8], k: usize, left: u8) -> u8
     requires { k + 4 ≤ length s.now }
     ensures { result ≡ cond (begins devc (drop k s.now)) left 0 }
 {
     if crate::begins_at(s, k) { left } else { 0 }
-}
-
-fn greater(a: u8, b: u8) -> u8
-    ensures { result ≡ max a b }
-{
-    if a < b { b } else { a }
 }
 
 // How many of some places are left from the first DEVC on, 0 where there is none: the greatest count is the first place's.
@@ -26,28 +18,23 @@ fn left_from(s: &[u8], from: usize, places: u8) -> u8
     let mut most: u8 = 0;
     let mut left: u8 = places;
     let mut k = from;
+    // over a range of places it is slower: with DEVC at each distance of 4 to 512 the search takes a tenth more
     while 0 < left {
-        most = greater(most, left_at(s, k, left));
+        most = most.max(left_at(s, k, left));
         left -= 1;
         k += 1;
     }
     most
 }
 
-fn count(places: u8) -> usize
-    ensures { result ≡ places }
-{
-    places as usize
-}
-
 // The first of some places where DEVC begins.
-pub(crate) fn in_block(s: &[u8], from: usize, places: u8) -> Found
+pub(crate) fn in_block(s: &[u8], from: usize, places: u8) -> Option<usize>
     requires { from + places + 3 ≤ length s.now }
     ensures { find_from s.now from ≡ or_else result (find_from s.now (from + places)) }
 {
     let left = left_from(s, from, places);
     if left == 0 {
-        return Found::Nothing;
+        return None;
     }
-    Found::At(from + count(places - left))
+    Some(from + usize::from(places - left))
 }

@@ -1,12 +1,6 @@
 // Filters: each is false only where DEVC begins at none of some places.
-ghost use Rattle.std.specs.Prelude.{◌≡◌, false, ◌+◌, ◌*◌, ◌<◌, ◌≤◌, length};
+ghost use Rattle.std.specs.Prelude.{ℕ, ◌≡◌, false, ◌+◌, ◌*◌, ◌≤◌, length};
 ghost use Rattle.search.specs.Search.{find_from, IsLetter, WordsAgree};
-
-fn wide(byte: u8) -> u16
-    ensures { (result ≡ byte) × (result < 256) }
-{
-    byte as u16
-}
 
 // Two words of two letters of DEVC, of which the one ends where the other begins: where that is, the bits in which they agree, and what those are.
 #[derive(Clone, Copy)]
@@ -36,7 +30,7 @@ fn may_begin_at_two(s: &[u8], k: usize, words: Words) -> bool
     requires words_agree { WordsAgree words.at words.bits words.are }
     ensures { result ≡ false → find_from s.now k ≡ find_from s.now (k + 2) }
 {
-    (wide(s[k + words.at]) + 256 * wide(s[k + words.at + 1])) & words.bits == words.are
+    (u16::from(s[k + words.at]) + 256 * u16::from(s[k + words.at + 1])) & words.bits == words.are
 }
 
 // By words, two places in one comparison: the quickest.
@@ -46,10 +40,8 @@ pub(crate) fn by_words(s: &[u8], from: usize, words: Words, count: usize) -> boo
     ensures { result ≡ false → find_from s.now from ≡ find_from s.now (from + 2 * count) }
 {
     let mut hit = false;
-    let mut pairs = 0;
-    while pairs < count {
-        hit = hit | may_begin_at_two(s, from + 2 * pairs, words);
-        pairs += 1;
+    for pairs in 0..count {
+        hit |= may_begin_at_two(s, from + 2 * pairs, words);
     }
     hit
 }
@@ -76,25 +68,23 @@ fn by_letters(s: &[u8], from: usize, one: Letter, other: Letter) -> bool
     ensures { result ≡ false → find_from s.now from ≡ find_from s.now (from + 128) }
 {
     let mut hit = false;
-    let mut k = from;
-    let end = from + 128;
-    while k < end {
-        hit = hit | ((s[k + one.at] == one.is) & (s[k + other.at] == other.is));
-        k += 1;
+    for k in from..from + 128 {
+        hit |= (s[k + one.at] == one.is) & (s[k + other.at] == other.is);
     }
     hit
 }
 
-// ---- blocks of 128 places: the first that a filter does not pass, or where fewer places are left
-
-fn words_pass(s: &[u8], from: usize, end: usize, words: Words) -> usize
+// The first block of 128 places that a filter does not pass, or where fewer places are left.
+fn blocks_pass<F: Fn(usize) -> bool>(s: &[u8], from: usize, end: usize, may_begin: F) -> usize
     requires from_le_end { (from ≤ end) × (end + 3 ≤ length s.now) }
-    requires words_agree { WordsAgree words.at words.bits words.are }
+    requires callable { (k : ℕ) → k + 131 ≤ length s.now → F.pre may_begin k }
+    requires filter { (k : ℕ) → k + 131 ≤ length s.now → F.post may_begin k false → find_from s.now k ≡ find_from s.now (k + 128) }
     ensures { (from ≤ result) × (result ≤ end) × (find_from s.now from ≡ find_from s.now result) }
 {
+    // `k` is the answer, so a range would be no plainer
     let mut k = from;
     while 128 <= end - k {
-        if by_words(s, k, words, 64) {
+        if may_begin(k) {
             return k;
         }
         k += 128;
@@ -102,78 +92,67 @@ fn words_pass(s: &[u8], from: usize, end: usize, words: Words) -> usize
     k
 }
 
-fn letters_pass(s: &[u8], from: usize, end: usize, one: Letter, other: Letter) -> usize
-    requires from_le_end { (from ≤ end) × (end + 3 ≤ length s.now) }
-    requires letter { IsLetter one.at one.is × IsLetter other.at other.is }
-    ensures { (from ≤ result) × (result ≤ end) × (find_from s.now from ≡ find_from s.now result) }
-{
-    let mut k = from;
-    while 128 <= end - k {
-        if by_letters(s, k, one, other) {
-            return k;
-        }
-        k += 128;
-    }
-    k
+// What a filter compares, in the order in which they are used.
+#[derive(Clone, Copy)]
+pub(crate) enum Compares {
+    FirstWords,
+    LastWords,
+    EAndV,
+    DAndC,
+    DAndE,
+    VAndC,
+    Nothing,
 }
 
 // By the filter in use; with none no block is passed.
-pub(crate) fn pass(s: &[u8], from: usize, end: usize, which: u8) -> usize
+pub(crate) fn pass(s: &[u8], from: usize, end: usize, compares: Compares) -> usize
     requires { (from ≤ end) × (end + 3 ≤ length s.now) }
     ensures { (from ≤ result) × (result ≤ end) × (find_from s.now from ≡ find_from s.now result) }
 {
-    if which == 0 {
-        return words_pass(s, from, end, FIRST);
+    match compares {
+        Compares::FirstWords => blocks_pass(s, from, end, |k| by_words(s, k, FIRST, 64)),
+        Compares::LastWords => blocks_pass(s, from, end, |k| by_words(s, k, LAST, 64)),
+        Compares::EAndV => blocks_pass(s, from, end, |k| by_letters(s, k, E, V)),
+        Compares::DAndC => blocks_pass(s, from, end, |k| by_letters(s, k, D, C)),
+        Compares::DAndE => blocks_pass(s, from, end, |k| by_letters(s, k, D, E)),
+        Compares::VAndC => blocks_pass(s, from, end, |k| by_letters(s, k, V, C)),
+        Compares::Nothing => from,
     }
-    if which == 1 {
-        return words_pass(s, from, end, LAST);
-    }
-    if which == 2 {
-        return letters_pass(s, from, end, E, V);
-    }
-    if which == 3 {
-        return letters_pass(s, from, end, D, C);
-    }
-    if which == 4 {
-        return letters_pass(s, from, end, D, E);
-    }
-    if which == 5 {
-        return letters_pass(s, from, end, V, C);
-    }
-    from
 }
 
 // ---- the filter in use
 
-// Which filter is in use, 6 being none, and how far it is trusted. Each choice is right, so nothing is promised of it.
+// The filter in use, and how far it is trusted. Each choice is right, so nothing is promised of it.
 #[derive(Clone, Copy)]
 pub(crate) struct Filter {
-    pub(crate) which: u8,
+    pub(crate) compares: Compares,
     pub(crate) trust: usize,
+}
+
+impl Compares {
+    // The one that is used after it; after the last there is none.
+    fn next(self) -> Compares {
+        match self {
+            Compares::FirstWords => Compares::LastWords,
+            Compares::LastWords => Compares::EAndV,
+            Compares::EAndV => Compares::DAndC,
+            Compares::DAndC => Compares::DAndE,
+            Compares::DAndE => Compares::VAndC,
+            Compares::VAndC | Compares::Nothing => Compares::Nothing,
+        }
+    }
 }
 
 impl Filter {
     // It took a block for one with DEVC, behind so many places that it passed: where that happens to more than one block in eight the next one is used.
     pub(crate) fn failed(self, passed: usize) -> Filter {
-        let trust = at_most_64(self.trust) + at_most_64(passed / 128);
-        if 8 <= trust {
-            return Filter {
-                which: self.which,
-                trust: trust - 8,
-            };
-        }
-        if self.which < 6 {
-            return Filter {
-                which: self.which + 1,
+        let trust = self.trust.min(64) + (passed / 128).min(64);
+        match trust.checked_sub(8) {
+            Some(trust) => Filter { trust, ..self },
+            None => Filter {
+                compares: self.compares.next(),
                 trust: 0,
-            };
+            },
         }
-        self
     }
-}
-
-fn at_most_64(n: usize) -> usize
-    ensures { result ≤ 64 }
-{
-    if n < 64 { n } else { 64 }
 }

@@ -9,54 +9,40 @@ mod filters;
 ghost use Rattle.std.specs.Prelude.{◌≡◌, ◌+◌, ◌≤◌, min, length, drop};
 ghost use Rattle.search.specs.Search.{devc, begins, find_from, devc_or_end, or_else};
 
-use filters::Filter;
-
-// What a search finds.
-#[derive(Clone, Copy)]
-pub enum Found {
-    // the place of a DEVC
-    At(usize),
-    Nothing,
-}
+use filters::{Compares, Filter};
 
 // The first DEVC from a place on.
-pub fn find_devc(file: &[u8], from: usize) -> Found
+pub fn find_devc(file: &[u8], from: usize) -> Option<usize>
     ensures { result ≡ find_from file.now from }
 {
     let at = devc_or_end(file, from);
     if at < file.len() {
-        return Found::At(at);
+        return Some(at);
     }
-    Found::Nothing
+    None
 }
 
 // The first DEVC from a place on, or the end of the file. A number, so that it is handed back in a register.
 pub fn devc_or_end(file: &[u8], from: usize) -> usize
     ensures { result ≡ devc_or_end file.now from }
 {
-    match seek(file, from) {
-        Found::At(at) => at,
-        Found::Nothing => file.len(),
-    }
+    seek(file, from).unwrap_or(file.len())
 }
 
 // The first DEVC from a place on: near, and then behind.
-fn seek(file: &[u8], from: usize) -> Found
+fn seek(file: &[u8], from: usize) -> Option<usize>
     ensures { result ≡ find_from file.now from }
 {
     let n = file.len();
     if n < 4 {
-        return Found::Nothing;
+        return None;
     }
     let end = n - 3;
     if end <= from {
-        return Found::Nothing;
+        return None;
     }
     let near = so_far(from, NEAR, end);
-    match by_place(file, from, near) {
-        Found::At(at) => Found::At(at),
-        Found::Nothing => behind(file, near, end),
-    }
+    by_place(file, from, near).or_else(|| behind(file, near, end))
 }
 
 // How many places are searched one by one: from the end of a DEVC those up to the one behind a packet without bytes. An even number, so that the words
@@ -71,6 +57,7 @@ fn so_far(from: usize, places: usize, end: usize) -> usize
     requires { from ≤ end }
     ensures { result ≡ min (from + places) end }
 {
+    // by min of the two it is slower: where DEVC stands every 8 bytes the search takes a tenth more
     if end - from < places {
         end
     } else {
@@ -79,15 +66,12 @@ fn so_far(from: usize, places: usize, end: usize) -> usize
 }
 
 // The first place of from..end where DEVC begins: by small blocks, and then by great ones.
-fn behind(s: &[u8], from: usize, end: usize) -> Found
+fn behind(s: &[u8], from: usize, end: usize) -> Option<usize>
     requires { (from ≤ end) × (end + 3 ≤ length s.now) }
     ensures { find_from s.now from ≡ or_else result (find_from s.now end) }
 {
     let short = so_far(from, SHORT, end);
-    match by_small_blocks(s, from, short) {
-        Found::At(at) => Found::At(at),
-        Found::Nothing => by_blocks(s, short, end),
-    }
+    by_small_blocks(s, from, short).or_else(|| by_blocks(s, short, end))
 }
 
 // Whether DEVC begins at a place: one comparison of four bytes.
@@ -99,33 +83,29 @@ pub(crate) fn begins_at(s: &[u8], k: usize) -> bool
 }
 
 // The first place of from..end where DEVC begins, place by place.
-fn by_place(s: &[u8], from: usize, end: usize) -> Found
+fn by_place(s: &[u8], from: usize, end: usize) -> Option<usize>
     requires { (from ≤ end) × (end + 3 ≤ length s.now) }
     ensures { find_from s.now from ≡ or_else result (find_from s.now end) }
 {
-    let mut k = from;
-    while k < end {
+    for k in from..end {
         if begins_at(s, k) {
-            return Found::At(k);
+            return Some(k);
         }
-        k += 1;
     }
-    Found::Nothing
+    None
 }
 
 // The same by 32 places at a time.
-fn by_small_blocks(s: &[u8], from: usize, end: usize) -> Found
+fn by_small_blocks(s: &[u8], from: usize, end: usize) -> Option<usize>
     requires { (from ≤ end) × (end + 3 ≤ length s.now) }
     ensures { find_from s.now from ≡ or_else result (find_from s.now end) }
 {
+    // `k` is used behind the loop, so a range would be no plainer
     let mut k = from;
     while 32 <= end - k {
         if filters::by_words(s, k, filters::FIRST, 16) {
-            match block::in_block(s, k, 32) {
-                Found::At(at) => {
-                    return Found::At(at);
-                }
-                Found::Nothing => {}
+            if let Some(at) = block::in_block(s, k, 32) {
+                return Some(at);
             }
             k += 32;
             continue;
@@ -136,38 +116,36 @@ fn by_small_blocks(s: &[u8], from: usize, end: usize) -> Found
 }
 
 // The first of 128 places where DEVC begins. Of the blocks without DEVC at which the first filter stops, the other words pass most.
-fn in_great_block(s: &[u8], from: usize, which: u8) -> Found
+fn in_great_block(s: &[u8], from: usize, compares: Compares) -> Option<usize>
     requires { from + 131 ≤ length s.now }
     ensures { find_from s.now from ≡ or_else result (find_from s.now (from + 128)) }
 {
-    if which == 0 {
+    if let Compares::FirstWords = compares {
         if !filters::by_words(s, from, filters::LAST, 64) {
-            return Found::Nothing;
+            return None;
         }
     }
     block::in_block(s, from, 128)
 }
 
 // The same by 128 places at a time. Behind a block that was taken for one with DEVC it goes on a place earlier, where other words of two places are compared.
-fn by_blocks(s: &[u8], from: usize, end: usize) -> Found
+fn by_blocks(s: &[u8], from: usize, end: usize) -> Option<usize>
     requires { (from ≤ end) × (end + 3 ≤ length s.now) }
     ensures { find_from s.now from ≡ or_else result (find_from s.now end) }
 {
+    // steps of no one length, so there is no range
     let mut k = from;
     let mut filter = Filter {
-        which: 0,
+        compares: Compares::FirstWords,
         trust: 16,
     };
     while 128 <= end - k {
-        let start = filters::pass(s, k, end, filter.which);
+        let start = filters::pass(s, k, end, filter.compares);
         if end - start < 128 {
             return by_place(s, start, end);
         }
-        match in_great_block(s, start, filter.which) {
-            Found::At(at) => {
-                return Found::At(at);
-            }
-            Found::Nothing => {}
+        if let Some(at) = in_great_block(s, start, filter.compares) {
+            return Some(at);
         }
         filter = filter.failed(start - k);
         k = start + 127;

@@ -1,12 +1,14 @@
 -- Which bytes can be seen, as code finds it out: a byte by two tests, a text byte by byte; and how a key is shown then. Assumes nothing.
-use Prim.Native.Nat.{ℕ, ◌+◌, ◌≤◌, ◌<◌}
-use mathlib.Core.Path.{◌≡◌, sym, ap, ◌∙◌}
+use native.Mathlib.Omega.{arith}
+use Prim.Native.Nat.{ℕ, ◌/◌}
+use mathlib.Core.Path.{◌≡◌, refl, sym, ap, ◌∙◌}
 use mathlib.Core.Bool.{Bool, true, false, ◌&&◌, cond}
-use mathlib.Core.List.{List, ◌++◌, append-nil}
-use native.Mathlib.Numerals.{add-one}
-use borrow.Author.Tests.{le-leb, lt-leb}
-use lib.ListN.{length, drop, get_or, replicate, drop_of_length-le}
-use lib.Seq.{drop-cons}
+use mathlib.Core.List.{List, [], ◌∷◌, ◌++◌, append-nil}
+use lib.ListN.{length, replicate}
+use mir.Syntax.{w32}
+use Rattle.std.specs.Int.{to_be_bytes}
+use Rattle.std.specs.Char.{is_ascii_graphic}
+use Rattle.std.specs.List.{list_all}
 use Rattle.foundation.specs.BigEndian.{bytes_of}
 use Rattle.foundation.specs.Text.{characters}
 use Rattle.text.specs.Lay.{laid}
@@ -14,23 +16,17 @@ use Rattle.numerals.specs.Numerals.{last_digits}
 use Rattle.numerals.proofs.Spelling.{length-last_digits}
 use Rattle.shown_key.specs.Key.{visible, all_visible, shown_key}
 
-pub below : (b : ℕ) → b < 33 → false ≡ visible b
-below b h = rw (lt-leb 33 b h)
+-- the bytes of a key, as std has them
+pub four_bytes : (k : ℕ) → to_be_bytes w32 k ≡ bytes_of 4 k
+four_bytes k =
+    let third : k / 65536 ≡ k / 256 / 256 = omega arith in
+    let fourth : k / 16777216 ≡ k / 256 / 256 / 256 = omega arith in
+    rw (fourth, third)
 
-pub above : (b : ℕ) → 33 ≤ b → 126 < b → false ≡ visible b
-above b l h = rw (le-leb 33 b l, lt-leb b 126 h)
-
-pub between : (b : ℕ) → 33 ≤ b → b ≤ 126 → true ≡ visible b
-between b l h = rw (le-leb 33 b l, le-leb b 126 h)
-
-module _ (s : List ℕ) (i : ℕ) where
-  -- the byte at a place decides, or those behind it
-  pub seen_at : i < length s → all_visible (drop i s) ≡ visible (get_or s i 0) && all_visible (drop (i + 1) s)
-  seen_at h = rw (drop-cons s i 0 h, add-one)
-
-  -- no byte is left
-  pub seen_all : length s ≤ i → all_visible (drop i s) ≡ true
-  seen_all h = rw (drop_of_length-le s {i = i} h)
+-- each of them graphic
+pub all_seen : (s : List ℕ) → list_all is_ascii_graphic s ≡ all_visible s
+all_seen [] = refl
+all_seen (b ∷ s) = ap (λ (t : Bool). visible b && t) (all_seen s)
 
 -- a key whose bytes can all be seen, and any other
 module _ (k : ℕ) (bytes : List ℕ) (seen : Bool) (are : bytes ≡ bytes_of 4 k) (tells : seen ≡ all_visible bytes) where

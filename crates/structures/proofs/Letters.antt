@@ -1,12 +1,12 @@
 -- A row of letters, gone through one by one: what a letter more adds, and which letter a column has. Assumes nothing.
-use Prim.Native.Nat.{ℕ, zero, suc, ◌+◌, ◌-◌, ◌<◌, ◌≤◌}
+use Prim.Native.Nat.{ℕ, suc, ◌+◌, ◌-◌, ◌<◌, ◌≤◌}
 use mathlib.Core.Path.{◌≡◌, refl, sym, ap, ◌∙◌}
-use mathlib.Core.Bool.{Bool, true, false, cond, ◌&&◌}
+use mathlib.Core.Bool.{cond}
 use mathlib.Core.List.{List, [], ◌∷◌}
 use native.Mathlib.Numerals.{add-one}
 use native.Mathlib.Omega.{arith}
-use borrow.Author.Tests.{eq-eqb, ne_eqb, lt-ltb}
-use lib.Dec.{eqb, ltb}
+use borrow.Author.Tests.{eq-eqb, ne_eqb}
+use lib.Dec.{eqb}
 use lib.ListN.{length, take, drop, get_or, drop_of_length-le}
 use lib.Seq.{drop-cons}
 use Rattle.elements.specs.Types.{width_of}
@@ -34,96 +34,38 @@ module _ (letters : List ℕ) (i : ℕ) (inside : i < length letters) (w : ℕ) 
       ∙ reading_cons (get_or letters i 0) (drop (suc i) letters)
       ∙ rw (← is-width, ← add-one i)
 
-  reads_nothing : w ≡ 0 → here ≡ later
-  reads_nothing e = first ∙ simp (eq-eqb w 0 e)
+  -- a letter that reads nothing is no column
+  pub skipped : w ≤ 0 → here ≡ later
+  skipped none = first ∙ simp (eq-eqb w 0 (omega arith))
 
-  reads : (w ≡ 0 → ⊥) → here ≡ get_or letters i 0 ∷ later
-  reads n = first ∙ simp (ne_eqb w 0 n)
+  -- any other is
+  module _ (some : 0 < w) where
+    reads : here ≡ get_or letters i 0 ∷ later
+    reads = first ∙ simp (ne_eqb w 0 (λ z. absurd (omega arith)))
 
-  zero_or_not : (P : Type 0) → (w ≡ 0 → P) → ((w ≡ 0 → ⊥) → P) → P
-  zero_or_not P f g = go w refl
-    where
-      go : (k : ℕ) → w ≡ k → P
-      go zero e = f e
-      go (suc k) e = g (λ z. absurd (omega arith))
-
-  module _ (step : ℕ) (is-step : step ≡ cond (eqb w 0) 0 1) where
-    step_none : w ≡ 0 → step ≡ 0
-    step_none e = is-step ∙ simp (eq-eqb w 0 e)
-
-    step_one : (w ≡ 0 → ⊥) → step ≡ 1
-    step_one n = is-step ∙ simp (ne_eqb w 0 n)
-
-    -- a letter more: its column, if it is one, and its bytes
-    pub more_columns : length here ≡ step + length later
-    more_columns =
-        zero_or_not (length here ≡ step + length later)
-        (λ e. let z = step_none e in rw (reads_nothing e) (omega arith))
-        (λ n. let z = step_one n in rw (reads n) (omega arith))
+    pub more_columns : length here ≡ suc (length later)
+    more_columns = rw reads
 
     pub more_bytes : widths_of here ≡ w + widths_of later
     unfolding widths_of
-    more_bytes =
-        zero_or_not (widths_of here ≡ w + widths_of later)
-        (λ e. rw (reads_nothing e) (omega arith))
-        (λ n. rw (reads n, ← is-width))
+    more_bytes = rw (reads, ← is-width)
 
-    -- the letter is not the one that is looked for: so many columns less
-    module _ (left : ℕ) (not_here : (ltb 0 w && eqb left 0) ≡ false) where
-      some_left : (w ≡ 0 → ⊥) → 0 < left
-      some_left n = go left refl
-        where
-          go : (k : ℕ) → left ≡ k → 0 < left
-          go zero e =
-              let t : (ltb 0 w && eqb left 0) ≡ true = rw (lt-ltb 0 w (omega arith), eq-eqb left 0 e) in
-              let o : ◌≡◌ {A = Bool} true false = sym t ∙ not_here in
-              let z : ◌≡◌ {A = ℕ} 0 1 = cc in
-              absurd (omega arith)
-          go (suc k) e = omega arith
+    -- of the columns from here on it is the first
+    pub the_letter : (left : ℕ) → left ≡ 0 → get_or letters i 0 ≡ get_or here left 0
+    the_letter left z = sym (ap (λ (k : ℕ). get_or here k 0) z ∙ ap (λ (l : List ℕ). get_or l 0 0) reads)
 
-      pub fewer : step ≤ left
-      fewer =
-          zero_or_not (step ≤ left) (λ e. let z = step_none e in omega arith) (λ n. let z = step_one n in let l = some_left n in omega arith)
+    pub same_letter : (left : ℕ) → 0 < left → get_or here left 0 ≡ get_or later (left - 1) 0
+    same_letter left l =
+        let next : left ≡ suc (left - 1) = omega arith in
+        ap (λ (k : ℕ). get_or here k 0) next ∙ ap (λ (s : List ℕ). get_or s (suc (left - 1)) 0) reads
 
-      pub same_letter : get_or here left 0 ≡ get_or later (left - step) 0
-      same_letter =
-          zero_or_not (get_or here left 0 ≡ get_or later (left - step) 0)
-          (λ e. let k : left ≡ left - step = omega (arith, step_none e) in rw (reads_nothing e) (ap (λ (n : ℕ). get_or later n 0) k))
-          (λ n. let k : left ≡ suc (left - step) = omega (arith, step_one n, some_left n) in ap (λ (j : ℕ). get_or here j 0) k ∙ ap (λ (l : List ℕ). get_or l (suc (left - step)) 0) (reads n))
-
-      pub same_bytes : widths_of (take left here) ≡ w + widths_of (take (left - step) later)
-      unfolding widths_of
-      same_bytes =
-          zero_or_not (widths_of (take left here) ≡ w + widths_of (take (left - step) later))
-          (λ e. let k : left ≡ left - step = omega (arith, step_none e) in
-          let none : widths_of (take left here) ≡ widths_of (take (left - step) later) = ap (λ (j : ℕ). widths_of (take j here)) k ∙ ap (λ (l : List ℕ). widths_of (take (left - step) l)) (reads_nothing e) in
-          omega arith)
-          (λ n. let k : left ≡ suc (left - step) = omega (arith, step_one n, some_left n) in
-          ap (λ (j : ℕ). widths_of (take j here)) k ∙ ap (λ (l : List ℕ). widths_of (take (suc (left - step)) l)) (reads n) ∙ rw (← is-width))
-
-  -- the letter is the one that is looked for
-  module _ (left : ℕ) (is-here : (ltb 0 w && eqb left 0) ≡ true) where
-    reads_here : w ≡ 0 → ⊥
-    reads_here e =
-        let f : (ltb 0 w && eqb left 0) ≡ false = rw e in
-        let o : ◌≡◌ {A = Bool} true false = sym is-here ∙ f in
-        let z : ◌≡◌ {A = ℕ} 0 1 = cc in
-        omega arith
-
-    none_before : left ≡ 0
-    none_before = go left refl
-      where
-        go : (k : ℕ) → left ≡ k → left ≡ 0
-        go zero e = e
-        go (suc k) e =
-            let f : (ltb 0 w && eqb left 0) ≡ false = rw (lt-ltb 0 w (omega (arith, reads_here)), ne_eqb left 0 (λ z. absurd (omega arith))) in
-            let o : ◌≡◌ {A = Bool} true false = sym is-here ∙ f in
-            let z : ◌≡◌ {A = ℕ} 0 1 = cc in
-            absurd (omega arith)
-
-    pub the_letter : get_or letters i 0 ≡ get_or here left 0
-    the_letter = sym (ap (λ (l : List ℕ). get_or l left 0) (reads reads_here) ∙ ap (λ (j : ℕ). get_or (get_or letters i 0 ∷ later) j 0) none_before)
-
-    pub the_bytes : widths_of (take left here) ≡ 0
+    pub same_bytes : (left : ℕ) → 0 < left → widths_of (take left here) ≡ w + widths_of (take (left - 1) later)
     unfolding widths_of
-    the_bytes = ap (λ (j : ℕ). widths_of (take j here)) none_before
+    same_bytes left l =
+        let next : left ≡ suc (left - 1) = omega arith in
+        ap (λ (k : ℕ). widths_of (take k here)) next ∙ ap (λ (s : List ℕ). widths_of (take (suc (left - 1)) s)) reads ∙ rw (← is-width)
+
+-- before the first column there are no bytes
+pub no_bytes : (letters : List ℕ) (left : ℕ) → left ≡ 0 → widths_of (take left letters) ≡ 0
+unfolding widths_of
+no_bytes letters left z = ap (λ (k : ℕ). widths_of (take k letters)) z

@@ -15,8 +15,8 @@ use Rattle.elements.specs.Element.{element_at}
 use Rattle.custom_type.specs.Expansion.{expanded}
 use Rattle.custom_type.specs.Resolved.{fits}
 use Rattle.value.specs.declared.Kind.TheVariants as kind
-use Rattle.value.specs.declared.Read.TheVariants as read
-use Rattle.value.specs.declared.Shaped.TheVariants as shaped
+use Rattle.std.specs.Prelude.{Ok}
+use Rattle.foundation.specs.Refusals.{refuse}
 use Rattle.structures.specs.declared.Row.{Row}
 use Rattle.structures.specs.declared.Letter.{Letter}
 use Rattle.value.specs.Value.{refused, column_letters, widths_of, structured, structures}
@@ -41,31 +41,31 @@ module _ (h : KLV) (payload letters : List ℕ) (place rows : ℕ) (all : Row) (
     too_few_lem : leb wanted (length payload) ≡ false
     too_few_lem = lt-leb wanted (length payload) (omega (arith, same))
 
-    pub element_short : (row column : ℕ) → read.Refused 6 place ≡ element_in place (structured (column_letters letters) h payload) row column
+    pub element_short : (row column : ℕ) → refuse 6 place ≡ element_in place (structured (column_letters letters) h payload) row column
     element_short row column = simp too_few_lem
 
-    pub shape_short : shaped.Refused 6 place ≡ shape_in place (structured (column_letters letters) h payload)
+    pub shape_short : refuse 6 place ≡ shape_in place (structured (column_letters letters) h payload)
     shape_short = simp too_few_lem
 
   module _ (whole : rows * all.width ≤ length payload) where
     enough : leb wanted (length payload) ≡ true
     enough = le-leb wanted (length payload) (omega (arith, same))
 
-    pub shape_whole : shaped.Is (record { kind = kind.Structures; rows = rows; columns = all.columns }) ≡ shape_in place (structured (column_letters letters) h payload)
-    shape_whole = (λ i. shaped.Is (record { kind = kind.Structures; rows = is-rows i; columns = is_row.columns i })) ∙ sym (simp enough)
+    pub shape_whole : Ok (record { kind = kind.Structures; rows = rows; columns = all.columns }) ≡ shape_in place (structured (column_letters letters) h payload)
+    shape_whole = (λ i. Ok (record { kind = kind.Structures; rows = is-rows i; columns = is_row.columns i })) ∙ sym (simp enough)
 
-    pub no_row : (row column : ℕ) → rows ≤ row → read.Refused 13 place ≡ element_in place (structured (column_letters letters) h payload) row column
+    pub no_row : (row column : ℕ) → rows ≤ row → refuse 13 place ≡ element_in place (structured (column_letters letters) h payload) row column
     no_row row column k = simp (enough, le-ltb row h.repeat (omega arith))
 
-    pub no_column : (row column : ℕ) → row < rows → all.columns ≤ column → read.Refused 13 place ≡ element_in place (structured (column_letters letters) h payload) row column
+    pub no_column : (row column : ℕ) → row < rows → all.columns ≤ column → refuse 13 place ≡ element_in place (structured (column_letters letters) h payload) row column
     no_column row column k l =
         simp (enough, lt-ltb row h.repeat (omega arith), le-ltb column (length (column_letters letters)) (omega (arith, is_row.columns)))
 
     pub in_row : (row column : ℕ) (its : Letter) (x : Element) → row < rows → column < all.columns → LetterIs letters column its
         → x ≡ element_at payload (row * all.width + its.before) its.letter
-        → read.Is x ≡ element_in place (structured (column_letters letters) h payload) row column
+        → Ok x ≡ element_in place (structured (column_letters letters) h payload) row column
     in_row row column its x k l is e =
-        ap read.Is (e ∙ (λ i. element_at payload (row * is_row.width i + is.before i) (is.letter i)))
+        ap Ok (e ∙ (λ i. element_at payload (row * is_row.width i + is.before i) (is.letter i)))
         ∙ sym (simp (enough, lt-ltb row h.repeat (omega arith), lt-ltb column (length (column_letters letters)) (omega (arith, is_row.columns))))
 
 -- ---- a TYPE text written out
@@ -76,11 +76,11 @@ module _ (h : KLV) (payload : List ℕ) where
   no_type_lem [] e = refl
   no_type_lem (c ∷ type) e = absurd (omega arith)
 
-  pub no_elements : (place row column : ℕ) → element_in place (structures [] h payload) row column ≡ read.Refused 13 place
+  pub no_elements : (place row column : ℕ) → element_in place (structures [] h payload) row column ≡ refuse 13 place
   unfolding width_of
   no_elements place row column = simp (le-leb 0 (length payload) (omega arith), le-ltb row 0 (omega arith))
 
-  pub no_shape : (place : ℕ) → shape_in place (structures [] h payload) ≡ shaped.Is (record { kind = kind.Unknown; rows = 0; columns = 0 })
+  pub no_shape : (place : ℕ) → shape_in place (structures [] h payload) ≡ Ok (record { kind = kind.Unknown; rows = 0; columns = 0 })
   unfolding width_of
   no_shape place = simp (le-leb 0 (length payload) (omega arith))
 

@@ -2,14 +2,15 @@
 
 #![tactic(auto)]
 
-ghost use Rattle.std.specs.Prelude.{◌≡◌, cond, ◌&&◌, ◌≤◌, ◌<◌, eqb, ltb, length};
+ghost use Rattle.std.specs.Prelude.{◌≡◌, ◌≤◌, length};
 ghost use Rattle.value.specs.Value.{column_letters, structured, structures};
 ghost use Rattle.value.specs.Answer.{element_in, shape_in};
 ghost use Rattle.structures.specs.Row.{RowIs, LetterIs};
 
-use custom_type::Expanded;
+use elements::Element;
+use foundation::refusal::{Fault, Refusal};
 use klv::{KLV, wider};
-use value::{Kind, Read, Shape, Shaped};
+use value::{Kind, Shape};
 
 // A row as its letters make it: the columns, and their bytes.
 #[derive(Clone, Copy)]
@@ -25,37 +26,19 @@ pub struct Letter {
     pub before: usize,
 }
 
-// A letter that reads something is a column.
-fn column_of(bytes: usize) -> usize
-    ensures { (result ≡ cond (eqb bytes 0) 0 1) × (result ≤ 1) }
-{
-    if bytes == 0 { 0 } else { 1 }
-}
-
-// The letter that is looked for: it reads something, and no more columns stand before it.
-fn is_here(bytes: usize, left: usize) -> bool
-    ensures { result ≡ (ltb 0 bytes && eqb left 0) }
-{
-    if 0 < bytes {
-        if left == 0 {
-            return true;
-        }
-    }
-    false
-}
-
+// The row of letters: each that reads something is a column.
 fn row_of(letters: &[u8]) -> Row
     requires { length letters.now ≤ 256 }
     ensures { RowIs letters.now result }
 {
     let mut columns: usize = 0;
     let mut width: usize = 0;
-    let mut i: usize = 0;
-    while i < letters.len() {
-        let bytes = elements::width(letters[i]);
-        columns += column_of(bytes);
+    for letter in letters {
+        let bytes = elements::width(*letter);
         width += bytes;
-        i += 1;
+        if 0 < bytes {
+            columns += 1;
+        }
     }
     Row { columns, width }
 }
@@ -67,16 +50,18 @@ fn letter_of(letters: &[u8], column: usize) -> Letter
 {
     let mut left = column;
     let mut before: usize = 0;
-    let mut i: usize = 0;
-    while i < letters.len() {
-        let letter = letters[i];
-        let bytes = elements::width(letter);
-        if is_here(bytes, left) {
-            return Letter { letter, before };
+    for letter in letters {
+        let bytes = elements::width(*letter);
+        if 0 < bytes {
+            if left == 0 {
+                return Letter {
+                    letter: *letter,
+                    before,
+                };
+            }
+            left -= 1;
         }
-        left -= column_of(bytes);
         before += bytes;
-        i += 1;
     }
     Letter { letter: 0, before }
 }
@@ -89,35 +74,35 @@ fn element_by(
     letters: &[u8],
     row: usize,
     column: usize,
-) -> Read
+) -> Result<Element, Refusal>
     requires { length letters.now ≤ 256 }
     ensures { result ≡ element_in place (structured (column_letters letters.now) klv payload.now) row column }
 {
     let rows = wider(klv.repeat);
     let all = row_of(letters);
     if payload.len() < rows * all.width {
-        return Read::Refused { number: 6, place };
+        return Err(Fault::TooFew.at(place));
     }
     if rows <= row {
-        return Read::Refused { number: 13, place };
+        return Err(Fault::Outside.at(place));
     }
     if all.columns <= column {
-        return Read::Refused { number: 13, place };
+        return Err(Fault::Outside.at(place));
     }
     let its = letter_of(letters, column);
-    Read::Is(elements::element_at(payload, row * all.width + its.before, its.letter))
+    Ok(elements::element_at(payload, row * all.width + its.before, its.letter))
 }
 
-fn shape_by(place: usize, klv: KLV, payload: &[u8], letters: &[u8]) -> Shaped
+fn shape_by(place: usize, klv: KLV, payload: &[u8], letters: &[u8]) -> Result<Shape, Refusal>
     requires { length letters.now ≤ 256 }
     ensures { result ≡ shape_in place (structured (column_letters letters.now) klv payload.now) }
 {
     let rows = wider(klv.repeat);
     let all = row_of(letters);
     if payload.len() < rows * all.width {
-        return Shaped::Refused { number: 6, place };
+        return Err(Fault::TooFew.at(place));
     }
-    Shaped::Is(Shape {
+    Ok(Shape {
         kind: Kind::Structures,
         rows,
         columns: all.columns,
@@ -132,33 +117,31 @@ pub fn element(
     type_text: &[u8],
     row: usize,
     column: usize,
-) -> Read
+) -> Result<Element, Refusal>
     ensures { result ≡ element_in place (structures type_text.now klv payload.now) row column }
 {
     if type_text.len() == 0 {
-        return Read::Refused { number: 13, place };
+        return Err(Fault::Outside.at(place));
     }
     let mut letters = [0u8; 256];
-    match custom_type::resolve_custom_type(type_text, &mut letters) {
-        Expanded::TooLong => Read::Refused { number: 8, place },
-        Expanded::Characters(n) => element_by(place, klv, payload, &letters[..n], row, column),
-    }
+    let written = custom_type::resolve_custom_type(type_text, &mut letters);
+    let n = written.map_err(|fault| fault.at(place))?;
+    element_by(place, klv, payload, &letters[..n], row, column)
 }
 
 // The shape of a structure: without TYPE, or with an empty one, it is unknown.
-pub fn shape(place: usize, klv: KLV, payload: &[u8], type_text: &[u8]) -> Shaped
+pub fn shape(place: usize, klv: KLV, payload: &[u8], type_text: &[u8]) -> Result<Shape, Refusal>
     ensures { result ≡ shape_in place (structures type_text.now klv payload.now) }
 {
     if type_text.len() == 0 {
-        return Shaped::Is(Shape {
+        return Ok(Shape {
             kind: Kind::Unknown,
             rows: 0,
             columns: 0,
         });
     }
     let mut letters = [0u8; 256];
-    match custom_type::resolve_custom_type(type_text, &mut letters) {
-        Expanded::TooLong => Shaped::Refused { number: 8, place },
-        Expanded::Characters(n) => shape_by(place, klv, payload, &letters[..n]),
-    }
+    let resolved = custom_type::resolve_custom_type(type_text, &mut letters);
+    let n = resolved.map_err(|fault| fault.at(place))?;
+    shape_by(place, klv, payload, &letters[..n])
 }

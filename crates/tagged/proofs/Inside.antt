@@ -11,14 +11,14 @@ use Rattle.foundation.specs.Text.{key}
 use Rattle.klv.specs.Item.{First, item, first_item, payload_at, next_at}
 use Rattle.klv.specs.Header.{header_at}
 use Rattle.klv.specs.declared.KLV.{KLV}
-use Rattle.klv.specs.declared.Header.TheVariants as header
+use Rattle.std.specs.Prelude.{Result, Ok}
+use Rattle.foundation.specs.Refusals.{refuse}
+use Rattle.foundation.specs.declared.refusal.Refusal.{Refusal}
 use Rattle.klv.proofs.Place.{first_item_lem}
 use Rattle.elements.specs.declared.Element.{Element}
 use Rattle.elements.specs.Types.{width_of}
 use Rattle.elements.specs.Element.{element_at}
 use Rattle.value.specs.declared.Grid.{Grid}
-use Rattle.value.specs.declared.Read.{Read}
-use Rattle.value.specs.declared.Read.TheVariants as read
 use Rattle.value.specs.Value.{Value, readable, refused, placed, gridded, numbers, is_quaternions, quaternions, plan_of, value_of}
 use Rattle.items.specs.At.{Named, named, bad, type_for, Found, stopped, whole_if, found_by, found_at}
 use Rattle.value.specs.Answer.{element_in}
@@ -37,7 +37,7 @@ module _ (Q : Element → Type 0) (at row column : ℕ) where
     abbrev whole : Value
     whole = record { kind = g.kind; rows = g.rows; columns = λ row. g.columns; element = placed g payload }
 
-    there : (b : Bool) → Held Q (cond b (read.Is (whole.element row column)) (read.Refused 13 at))
+    there : (b : Bool) → Held Q (cond b (Ok (whole.element row column)) (refuse 13 at))
     there true = held ((row * g.columns + column) * width_of g.letter)
     there false = tt
 
@@ -56,8 +56,8 @@ module _ (Q : Element → Type 0) (at row column : ℕ) where
     value_held false e = rw (e, ne_eqb (width_of h.data_type) 0 wide) (grid_held (numbers h) payload held)
 
 -- at a place
-module _ (Q : Element → Type 0) (s : List ℕ) (at : ℕ) (h : KLV) (is_item : header_at s at ≡ header.Item h) (wide : width_of h.data_type ≡ 0 → ⊥) (row column : ℕ) where
-  abbrev read_at_lem : Found → Read
+module _ (Q : Element → Type 0) (s : List ℕ) (at : ℕ) (h : KLV) (is_item : header_at s at ≡ Ok h) (wide : width_of h.data_type ≡ 0 → ⊥) (row column : ℕ) where
+  abbrev read_at_lem : Found → Result Element Refusal
   read_at_lem f = element_of_found f at row column
 
   module _ (held : (k : ℕ) → Q (element_at (payload_at s at h) k h.data_type)) where

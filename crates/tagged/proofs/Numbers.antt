@@ -17,7 +17,7 @@ use Rattle.foundation.proofs.Bytes.{take_bytes, drop_bytes}
 use Rattle.klv.specs.Item.{data_len, payload_at}
 use Rattle.klv.specs.Header.{header_at}
 use Rattle.klv.specs.declared.KLV.{KLV}
-use Rattle.klv.specs.declared.Header.TheVariants as header
+use Rattle.std.specs.Prelude.{Ok}
 use Rattle.elements.specs.declared.Element.{Element}
 use Rattle.elements.specs.declared.Element.TheVariants.{Signed, Unsigned}
 use Rattle.elements.specs.Types.{width_of}
@@ -52,7 +52,7 @@ module _ (s : List ℕ) (bytes : AreBytes s) (k : ℕ) where
       there false = omega arith
 
 -- AN ELEMENT of the item at a place
-module _ (s : List ℕ) (bytes : AreBytes s) (at : ℕ) (h : KLV) (is_item : header_at s at ≡ header.Item h) (row column : ℕ) where
+module _ (s : List ℕ) (bytes : AreBytes s) (at : ℕ) (h : KLV) (is_item : header_at s at ≡ Ok h) (row column : ℕ) where
   payload_bytes : AreBytes (payload_at s at h)
   payload_bytes = take_bytes (data_len h) (drop (at + 8) s) (drop_bytes (at + 8) s bytes)
 

@@ -1,12 +1,11 @@
 -- What callers of this crate say of a number that they read: which whole number it is, and how many bits hold it. Assumes nothing: these are
 -- definitions.
-use Rattle.std.specs.Prelude.{ℕ, ◌^◌, ◌<◌, ℤ, pos}
+use Rattle.std.specs.Prelude.{ℕ, ◌^◌, ◌<◌, ℤ, pos, Result, Ok, Err}
 use Rattle.std.specs.Int.{w16}
 use Rattle.std.proofs.Common.{SFits}
 use Rattle.elements.specs.declared.Element.{Element}
 use Rattle.elements.specs.declared.Element.TheVariants.{Signed, Unsigned, Single, Double}
-use Rattle.value.specs.declared.Read.{Read}
-use Rattle.value.specs.declared.Read.TheVariants as read
+use Rattle.foundation.specs.declared.refusal.Refusal.{Refusal}
 
 -- the number of a signed letter, and 0 for any other element
 abbrev pub signed_number : Element → ℤ
@@ -37,6 +36,6 @@ ThirtyTwo (Single x) = Unit {0}
 ThirtyTwo (Double x) = Unit {0}
 
 -- what holds of the element, where one was read
-abbrev pub Held : (Element → Type 0) → Read → Type 0
-Held Q (read.Is e) = Q e
-Held Q (read.Refused number place) = Unit {0}
+abbrev pub Held : (Element → Type 0) → Result Element Refusal → Type 0
+Held Q (Ok e) = Q e
+Held Q (Err r) = Unit {0}

@@ -5,78 +5,59 @@
 ghost use Rattle.std.specs.Prelude.{◌≡◌};
 ghost use Rattle.tagged.specs.Tagged.{tagged_at, tagged_of, one_number};
 
-use klv::{KLV, wide};
-use rows::{Found, Row, RowAt};
-use values::Headed;
+use foundation::refusal::{Fault, Refusal};
+use klv::KLV;
 
-// What a group has of a tag.
-#[derive(Clone, Copy)]
-pub enum Tagged {
-    // the item of the last such row
-    Is { klv: KLV, place: u32 },
-    Nothing,
-    Refused { number: u32, place: usize },
+// An item that a group has: its header, and where it stands.
+#[derive(Clone, Copy, PartialEq, Eq, Debug)]
+pub struct Tagged {
+    pub klv: KLV,
+    pub place: u32,
 }
 
-// The refusal of a payload over the limit.
-const TOO_LONG: u32 = 1;
-
-// The item at a place that a row names.
-fn item_at(s: &[u8], place: u32) -> Tagged
+// The item at a place that a row names, which is something.
+#[tactic(auto, unfolding(crate::specs::Tagged::tagged_at))]
+fn item_at(s: &[u8], place: u32) -> Result<Option<Tagged>, Refusal>
     ensures { result ≡ tagged_at s.now place }
 {
-    match values::klv_at(s, place as usize, items::NO_TYPE) {
-        Headed::Is(klv) => Tagged::Is { klv, place },
-        Headed::Refused { number, place } => Tagged::Refused { number, place },
-    }
+    let klv = values::klv_at(s, place as usize, items::NO_TYPE)?;
+    Ok(Some(Tagged { klv, place }))
 }
 
-// The item of the last of the first `count` rows that is of a group and a tag, and under tag 0 of a key.
-pub fn tagged_item(
-    s: &[u8],
-    rows: &[u32],
-    count: usize,
-    group_kind: u32,
-    group_key: u32,
-    tag: u32,
-    key: u32,
-) -> Tagged
-    ensures { result ≡ tagged_of s.now rows.now count group_kind group_key tag key }
-{
-    if klv::MOST_BYTES < s.len() {
-        return Tagged::Refused {
-            number: TOO_LONG,
-            place: 0,
-        };
-    }
-    match rows::lookup(rows, count, group_kind, group_key, tag, key) {
-        Found::Refused { number, place } => Tagged::Refused { number, place },
-        Found::Nothing => Tagged::Nothing,
-        Found::At(n) => {
-            let RowAt::Is(row) = rows::row_at(rows, n) else {
-                return Tagged::Nothing;
-            };
-            item_at(s, row.place)
+// A group of a packet: the payload, the rows of which so many were written, and what the group is named by in them.
+#[derive(Clone, Copy)]
+pub struct Group<'a> {
+    pub payload: &'a [u8],
+    pub rows: &'a [u32],
+    pub count: usize,
+    pub kind: u32,
+    pub key: u32,
+}
+
+impl<'a> Group<'a> {
+    // The item of the last of its rows that is of a tag, and under tag 0 of a key.
+    #[tactic(auto, using(std::proofs::lemmas::Bool::Decides::nat_tests, crate::proofs::Laws::row_there), unfolding(crate::specs::Tagged::tagged_of))]
+    pub fn tagged(self, tag: u32, key: u32) -> Result<Option<Tagged>, Refusal>
+        ensures { result ≡ tagged_of self.entry.payload.now self.entry.rows.now self.entry.count self.entry.kind self.entry.key tag key }
+    {
+        if klv::MOST_BYTES < self.payload.len() {
+            return Err(Fault::TooLong.at(0));
         }
+        let Some(n) = rows::lookup(self.rows, self.count, self.kind, self.key, tag, key)? else {
+            return Ok(None);
+        };
+        let Some(row) = rows::row_at(self.rows, n) else {
+            return Ok(None);
+        };
+        item_at(self.payload, row.place)
     }
 }
 
 // Whether a header's type, size and repeat are those of one number of a letter; its key, by which `s` may be quaternions, is not looked at.
+#[tactic(auto, using(std::proofs::lemmas::Bool::Decides::nat_tests), unfolding(crate::specs::Tagged::one_number))]
 pub fn is_one_number(klv: KLV, letter: u8) -> bool
     ensures { result ≡ one_number klv letter }
 {
     let width = elements::width(letter);
-    if klv.data_type != letter {
-        return false;
-    }
-    if klv.repeat != 1 {
-        return false;
-    }
-    if width == 0 {
-        return false;
-    }
-    if wide(klv.size) / width != 1 {
-        return false;
-    }
-    true
+    klv.data_type == letter && klv.repeat == 1 && width != 0 && usize::from(klv.size) / width == 1
 }

@@ -1,12 +1,12 @@
 -- What is printed of a packet of a take: its line, its listing, and where it is refused the listing of its front.
 -- Document 01, Cases, 12, has the listing; the front is demand 1's ("the bytes before the place, read alone with the same room, are accepted").
 -- Assumes nothing: these are definitions.
-use Rattle.std.specs.Prelude.{ℕ, ◌≡◌, Bool, true, false, List, [], ◌∷◌, ◌++◌, length, take}
+use Rattle.std.specs.Prelude.{ℕ, ◌≡◌, Bool, true, false, List, [], ◌∷◌, ◌++◌, length, take, Result, Ok, Err}
+use Rattle.foundation.specs.declared.refusal.Refusal.{Refusal}
 use Rattle.foundation.specs.Text.{characters}
 use Rattle.reading.specs.Walk.{Outcome, accepted, refused, reading_of, room_of}
 use Rattle.reading.specs.Answer.{lent}
 use Rattle.walk.specs.declared.Metadata.{Metadata}
-use Rattle.walk.specs.declared.Metadata.TheVariants.{Rows, Refused}
 use Rattle.listing.specs.Listing.{listing}
 use Rattle.take_lines.specs.Lines.{packet_line, LaysAll}
 
@@ -23,9 +23,9 @@ packet true number place payload room (refused why at) = []
 packet false number place payload room (refused why at) = packet_line number place (length payload) ++ (listing (refused why at) ++ front payload room at)
 
 -- whether a packet is left out: a refused one, "of the archivist's whole take"
-abbrev pub left_out : Bool → Metadata → Bool
-left_out whole (Rows rows headers) = false
-left_out whole (Refused number place) = whole
+abbrev pub left_out : Bool → Result Metadata Refusal → Bool
+left_out whole (Ok m) = false
+left_out whole (Err r) = whole
 
 -- whether a packet counts as read
 abbrev pub is_accepted : Outcome → Bool

@@ -2,10 +2,11 @@
 
 #![tactic(auto)]
 
-ghost use Rattle.std.specs.Prelude.{◌≡◌, false, length, take};
+ghost use Rattle.std.specs.Prelude.{◌≡◌, false, length};
 ghost use Rattle.reading.specs.Walk.{reading_of, room_of};
 ghost use Rattle.take.specs.Take.{left_out, Fronts, Takes};
 
+use foundation::refusal::Refusal;
 use metadata::Metadata;
 
 // A packet that was laid: the place behind it, and whether it was accepted.
@@ -16,7 +17,8 @@ pub struct Taken {
     pub accepted: bool,
 }
 
-// Lays a packet of a file, by its number, its start in the file and its bytes.
+// Lays a packet of a file, by its number, its start in the file and its bytes; lent in parts, as `gpmf_put_packet` takes
+// them: the C interface.
 pub fn put_packet(
     payload: &[u8],
     number: u64,
@@ -38,37 +40,22 @@ pub fn put_packet(
     let line = take_lines::put_packet_line(out, at, number, place, payload.len() as u64);
     let first = listing_line::put_answer(out, line, answer);
     match answer {
-        Metadata::Rows {
-            rows: count,
-            headers: _,
-        } => Taken {
-            end: listing::put_rows(out, first, rows, count),
+        Ok(read) => Taken {
+            end: listing::put_rows(out, first, rows, read.rows),
             accepted: true,
         },
-        Metadata::Refused {
-            number: _,
-            place: stop,
-        } => Taken {
-            end: put_front(payload, stop, rows, out, first),
+        Err(refusal) => Taken {
+            end: put_front(payload, refusal.place, rows, out, first),
             accepted: false,
         },
     }
 }
 
 // Whether a packet is left out: a refused one, of the whole take.
-fn left_out(whole: bool, answer: Metadata) -> bool
+fn left_out(whole: bool, answer: Result<Metadata, Refusal>) -> bool
     ensures { result ≡ left_out whole answer }
 {
-    match answer {
-        Metadata::Rows {
-            rows: _,
-            headers: _,
-        } => false,
-        Metadata::Refused {
-            number: _,
-            place: _,
-        } => whole,
-    }
+    answer.is_err() && whole
 }
 
 // Lays the listing of a payload's front: the bytes before a place.
@@ -76,15 +63,6 @@ fn put_front(payload: &[u8], place: usize, rows: &mut [u32], out: &mut [u8], at:
     ensures { Fronts payload.now place rows.old out.old at result rows.new out.new }
 {
     let word = text::put_bytes(out, at, b"front ");
-    listing::list(before(payload, place), rows, out, word)
-}
-
-// The bytes before a place.
-fn before(s: &[u8], place: usize) -> &[u8]
-    ensures { result.now ≡ take place s.now }
-{
-    if s.len() < place {
-        return s;
-    }
-    &s[..place]
+    let front = &payload[..place.min(payload.len())];
+    listing::list(front, rows, out, word)
 }

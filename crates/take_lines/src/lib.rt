@@ -6,19 +6,37 @@ ghost use Rattle.std.specs.Prelude.{[], ◌∷◌};
 ghost use Rattle.numerals.specs.Numerals.{decimal};
 ghost use Rattle.take_lines.specs.Lines.{counts_line, packet_line, totals_line, long_packet, LaysAll};
 
-use metadata::Metadata;
+use foundation::refusal::Fault;
+use walk::Metadata;
+
+// A word, and the number behind it.
+#[derive(Clone, Copy)]
+struct Count<'a> {
+    word: &'a [u8],
+    number: u64,
+}
 
 // Lays the line of a packet, by its number, its start in the file and its length.
 pub fn put_packet_line(out: &mut [u8], at: usize, number: u64, place: u64, bytes: u64) -> usize
     ensures { LaysAll (packet_line number place bytes) out.old at result out.new }
 {
     put_counts(
-        out, at, b"packet ", number, b" at ", place, b" bytes ", bytes,
+        out,
+        at,
+        Count {
+            word: b"packet ",
+            number,
+        },
+        Count {
+            word: b" at ",
+            number: place,
+        },
+        Count {
+            word: b" bytes ",
+            number: bytes,
+        },
     )
 }
-
-// The refusal of a payload over the limit.
-const TOO_LONG: u32 = 1;
 
 // Lays a packet of more bytes than are held: refused with 1 at 0.
 pub fn put_long_packet(
@@ -35,22 +53,15 @@ pub fn put_long_packet(
         return at;
     }
     let line = put_packet_line(out, at, number, place, bytes);
-    let refused = listing_line::put_answer(
-        out,
-        line,
-        Metadata::Refused {
-            number: TOO_LONG,
-            place: 0,
-        },
-    );
+    let refused = listing_line::put_answer(out, line, Err(Fault::TooLong.at(0)));
     let front = text::put_bytes(out, refused, b"front ");
     listing_line::put_answer(
         out,
         front,
-        Metadata::Rows {
+        Ok(Metadata {
             rows: 0,
             headers: 0,
-        },
+        }),
     )
 }
 
@@ -61,38 +72,35 @@ pub fn put_totals(out: &mut [u8], at: usize, packets: u64, read: u64, refused: u
     put_counts(
         out,
         at,
-        b"packets ",
-        packets,
-        b" read ",
-        read,
-        b" refused ",
-        refused,
+        Count {
+            word: b"packets ",
+            number: packets,
+        },
+        Count {
+            word: b" read ",
+            number: read,
+        },
+        Count {
+            word: b" refused ",
+            number: refused,
+        },
     )
 }
 
 // A line of three numbers, each behind its word.
-fn put_counts(
-    out: &mut [u8],
-    at: usize,
-    one: &[u8],
-    n: u64,
-    two: &[u8],
-    m: u64,
-    three: &[u8],
-    k: u64,
-) -> usize
-    ensures { LaysAll (counts_line one.now n two.now m three.now k) out.old at result out.new }
+fn put_counts(out: &mut [u8], at: usize, one: Count, two: Count, three: Count) -> usize
+    ensures { LaysAll (counts_line one.entry.word.now one.entry.number two.entry.word.now two.entry.number three.entry.word.now three.entry.number) out.old at result out.new }
 {
-    let first = put_count(out, at, one, n);
-    let second = put_count(out, first, two, m);
-    let third = put_count(out, second, three, k);
+    let first = put_count(out, at, one);
+    let second = put_count(out, first, two);
+    let third = put_count(out, second, three);
     text::put(out, third, b'\n')
 }
 
-// A word and a number.
-fn put_count(out: &mut [u8], at: usize, word: &[u8], n: u64) -> usize
-    ensures { LaysAll (word.now ∷ decimal n ∷ []) out.old at result out.new }
+// A word and its number.
+fn put_count(out: &mut [u8], at: usize, count: Count) -> usize
+    ensures { LaysAll (count.entry.word.now ∷ decimal count.entry.number ∷ []) out.old at result out.new }
 {
-    let end = text::put_bytes(out, at, word);
-    numerals::put_decimal(out, end, n)
+    let end = text::put_bytes(out, at, count.word);
+    numerals::put_decimal(out, end, count.number)
 }

@@ -1,11 +1,12 @@
 // Text laid into a lent buffer at a place. Each call answers the place behind its text, so that calls follow one another;
 // what does not fit leaves the buffer as it was and is answered FULL, at which nothing fits any more: one look at the last
 // answer tells whether all of them fitted.
+// Buffer and place stay two parameters: the C interface (gpmf_put, gpmf_put_bytes) has them so.
 
 #![tactic(auto)]
 
-ghost use Rattle.std.specs.Prelude.{◌≡◌, [], ◌∷◌, ◌+◌, ◌≤◌, leb, length};
-ghost use Rattle.text.specs.Lay.{over, Lays};
+ghost use Rattle.std.specs.Prelude.{◌≡◌, [], ◌∷◌, ◌+◌, leb};
+ghost use Rattle.text.specs.Lay.{Lays};
 
 pub const FULL: usize = usize::MAX;
 
@@ -25,7 +26,7 @@ pub fn put_bytes(out: &mut [u8], at: usize, text: &[u8]) -> usize
     ensures { Lays text.now out.old at result out.new }
 {
     if has_room(out.len(), at, text.len()) {
-        copy(out, at, text);
+        out[at..at + text.len()].copy_from_slice(text);
         return at + text.len();
     }
     FULL
@@ -35,22 +36,5 @@ pub fn put_bytes(out: &mut [u8], at: usize, text: &[u8]) -> usize
 pub fn has_room(len: usize, at: usize, count: usize) -> bool
     ensures { result ≡ leb (at + count) len }
 {
-    if len < at {
-        return false;
-    }
-    if len - at < count {
-        return false;
-    }
-    true
-}
-
-fn copy(out: &mut [u8], at: usize, text: &[u8])
-    requires { at + length text.now ≤ length out.old }
-    ensures { out.new ≡ over out.old at text.now }
-{
-    let mut i: usize = 0;
-    while i < text.len() {
-        out[at + i] = text[i];
-        i += 1;
-    }
+    at <= len && count <= len - at
 }

@@ -2,27 +2,19 @@
 use Prim.Native.Nat.{ℕ, ◌+◌, ◌-◌, ◌*◌, ◌<◌, ◌≤◌}
 use Prim.Native.Char.{code}
 use mathlib.Core.Path.{◌≡◌, sym, ap, ◌∙◌}
-use mathlib.Core.Bool.{Bool, true, false, not}
 use mathlib.Core.List.{List, [], ◌∷◌}
 use native.Mathlib.Nat.{mul-one}
 use native.Mathlib.Omega.{arith}
-use borrow.Author.Tests.{not-true, not-false, lt-ltb, le-ltb, le-leb}
+use borrow.Author.Tests.{le-leb}
 use lib.ListN.{length, take, drop, get_or, length-take, length-drop, drop_of_length-le}
 use lib.Seq.{take_all, take-nil, drop-cons, get_or-take, get_or-drop}
 use Rattle.foundation.specs.BigEndian.{big_endian}
 use Rattle.klv.specs.declared.KLV.{KLV}
-use Rattle.elements.specs.declared.Element.{Element}
 use Rattle.elements.specs.Types.{width_of}
 use Rattle.elements.specs.Element.{element_of, element_at}
 use Rattle.texts.specs.Kept.{up_to_zero}
-use Rattle.texts.specs.Texts.{are_well_formed}
 use Rattle.texts.proofs.Kept.{up_to_zero_front, up_to_zero_length}
-use Rattle.value.specs.declared.Kind.TheVariants as kind
-use Rattle.value.specs.declared.Read.TheVariants as read
-use Rattle.value.specs.declared.Shaped.TheVariants as shaped
-use Rattle.value.specs.declared.Count.TheVariants as columns
-use Rattle.value.specs.Value.{text_of, texts}
-use Rattle.value.specs.Answer.{element_in, shape_in, columns_in}
+use Rattle.value.specs.Value.{text_of, placed, room}
 
 -- a text has room for size bytes
 pub kept_most : (h : KLV) (payload : List ℕ) (row : ℕ) → length (text_of h payload row) ≤ h.size
@@ -83,48 +75,9 @@ text_byte h payload row k l =
     ∙ ap (λ (b : ℕ). element_of (code "B") (big_endian (b ∷ []))) same
     ∙ sym (byte_at payload (start + k) (omega arith))
 
--- ---- what is answered
-module _ (h : KLV) (payload : List ℕ) (place size : ℕ) (is-size : size ≡ h.size) (fine : Bool) (is-fine : fine ≡ are_well_formed size payload) where
-  well : fine ≡ are_well_formed h.size payload
-  well = is-fine ∙ ap (λ (z : ℕ). are_well_formed z payload) is-size
-
-  module _ (no : not fine ≡ true) where
-    refused : are_well_formed h.size payload ≡ false
-    refused = sym well ∙ not-true fine no
-
-    pub element_refused : (row column : ℕ) → read.Refused 7 place ≡ element_in place (texts h payload) row column
-    element_refused row column = simp refused
-
-    pub columns_refused : (row : ℕ) → columns.Refused 7 place ≡ columns_in place (texts h payload) row
-    columns_refused row = simp refused
-
-    pub shape_refused : shaped.Refused 7 place ≡ shape_in place (texts h payload)
-    shape_refused = simp refused
-
-  module _ (yes : not fine ≡ false) (rows : ℕ) (is-rows : rows ≡ h.repeat) where
-    good : are_well_formed h.size payload ≡ true
-    good = sym well ∙ not-false fine yes
-
-    pub shape_good : (n : ℕ) → n ≡ length (text_of h payload 0) → shaped.Is (record { kind = kind.Texts; rows = rows; columns = n }) ≡ shape_in place (texts h payload)
-    shape_good n e = (λ i. shaped.Is (record { kind = kind.Texts; rows = is-rows i; columns = e i })) ∙ sym (simp good)
-
-    module _ (row : ℕ) where
-      pub element_row : (column : ℕ) → rows ≤ row → read.Refused 13 place ≡ element_in place (texts h payload) row column
-      element_row column l = simp (good, le-ltb row h.repeat (omega arith))
-
-      pub columns_row : rows ≤ row → columns.Refused 13 place ≡ columns_in place (texts h payload) row
-      columns_row l = simp (good, le-ltb row h.repeat (omega arith))
-
-      module _ (l : row < rows) (n : ℕ) (is-n : n ≡ length (text_of h payload row)) where
-        pub columns_good : columns.Are n ≡ columns_in place (texts h payload) row
-        columns_good = ap columns.Are is-n ∙ sym (simp (good, lt-ltb row h.repeat (omega arith)))
-
-        pub element_column : (column : ℕ) → n ≤ column → read.Refused 13 place ≡ element_in place (texts h payload) row column
-        element_column column k = simp (good, lt-ltb row h.repeat (omega arith), le-ltb column (length (text_of h payload row)) (omega arith))
-
-        pub element_good : (column : ℕ) (x : Element) → column < n → x ≡ element_at (text_of h payload row) column (code "B")
-            → read.Is x ≡ element_in place (texts h payload) row column
-        unfolding width_of
-        element_good column x k e =
-            ap read.Is (e ∙ text_byte h payload row column (omega arith) ∙ ap (λ (y : ℕ). element_at payload y (code "B")) (sym (mul-one (row * h.size + column))))
-            ∙ sym (simp (good, lt-ltb row h.repeat (omega arith), lt-ltb column (length (text_of h payload row)) (omega arith)))
+-- are the elements of its row
+pub text_element : (h : KLV) (payload : List ℕ) (row column : ℕ) → column < length (text_of h payload row)
+    → element_at (text_of h payload row) column (code "B") ≡ placed (room h) payload row column
+unfolding width_of
+text_element h payload row column l =
+    text_byte h payload row column l ∙ ap (λ (k : ℕ). element_at payload k (code "B")) (sym (mul-one (row * h.size + column)))

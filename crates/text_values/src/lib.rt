@@ -2,25 +2,23 @@
 
 #![tactic(auto)]
 
-ghost use Rattle.std.specs.Prelude.{◌≡◌, ◌*◌, ◌<◌, take, drop};
+ghost use Rattle.std.specs.Prelude.{◌≡◌, ◌*◌, cond, Ok, take, drop};
+ghost use Rattle.foundation.specs.Refusals.{refuse, unreadable};
+ghost use Rattle.texts.specs.Texts.{are_well_formed};
 ghost use Rattle.value.specs.Value.{text_of, texts};
 ghost use Rattle.value.specs.Answer.{element_in, shape_in, columns_in};
 
+use elements::Element;
+use foundation::refusal::{Fault, Refusal};
 use klv::{KLV, wide, wider};
-use value::{Count, Kind, Read, Shape, Shaped};
-
-fn widest(row: u32) -> usize
-    ensures { (result ≡ row) × (result < 4294967296) }
-{
-    row as usize
-}
+use value::{Kind, Shape};
 
 // The room of the text of a row, as far as the payload goes.
 fn room_of(klv: KLV, payload: &[u8], row: u32) -> &[u8]
     ensures { result.now ≡ take klv.size (drop (row * klv.size) payload.now) }
 {
     let size = wide(klv.size);
-    let start = widest(row) * size;
+    let start = row as usize * size;
     if payload.len() < start {
         return &payload[..0];
     }
@@ -39,46 +37,58 @@ pub fn row_text(klv: KLV, payload: &[u8], row: u32) -> &[u8]
     &room[..kept]
 }
 
+// Refuses texts of which one is not UTF-8.
+fn readable(place: usize, klv: KLV, payload: &[u8]) -> Result<(), Refusal>
+    ensures { result ≡ cond (are_well_formed klv.size payload.now) (Ok tt) (refuse unreadable place) }
+{
+    if utf8::are_utf8(payload, wide(klv.size)) {
+        Ok(())
+    } else {
+        Err(Fault::Unreadable.at(place))
+    }
+}
+
 // An element of several texts: a byte of the text of a row.
-pub fn element(place: usize, klv: KLV, payload: &[u8], row: usize, column: usize) -> Read
+#[tactic(auto, using(crate::proofs::SeveralTexts::text_element))]
+pub fn element(
+    place: usize,
+    klv: KLV,
+    payload: &[u8],
+    row: usize,
+    column: usize,
+) -> Result<Element, Refusal>
     ensures { result ≡ element_in place (texts klv payload.now) row column }
 {
-    if !utf8::are_utf8(payload, wide(klv.size)) {
-        return Read::Refused { number: 7, place };
-    }
+    readable(place, klv, payload)?;
     if wider(klv.repeat) <= row {
-        return Read::Refused { number: 13, place };
+        return Err(Fault::Outside.at(place));
     }
     let text = row_text(klv, payload, row as u32);
     if text.len() <= column {
-        return Read::Refused { number: 13, place };
+        return Err(Fault::Outside.at(place));
     }
-    Read::Is(elements::element_at(text, column, b'B'))
+    Ok(elements::element_at(text, column, b'B'))
 }
 
 // The columns of a row of several texts: the bytes that its text keeps.
-pub fn columns(place: usize, klv: KLV, payload: &[u8], row: usize) -> Count
+pub fn columns(place: usize, klv: KLV, payload: &[u8], row: usize) -> Result<usize, Refusal>
     ensures { result ≡ columns_in place (texts klv payload.now) row }
 {
-    if !utf8::are_utf8(payload, wide(klv.size)) {
-        return Count::Refused { number: 7, place };
-    }
+    readable(place, klv, payload)?;
     if wider(klv.repeat) <= row {
-        return Count::Refused { number: 13, place };
+        return Err(Fault::Outside.at(place));
     }
     let kept = row_text(klv, payload, row as u32);
-    Count::Are(kept.len())
+    Ok(kept.len())
 }
 
 // The shape of several texts, with the columns of the first.
-pub fn shape(place: usize, klv: KLV, payload: &[u8]) -> Shaped
+pub fn shape(place: usize, klv: KLV, payload: &[u8]) -> Result<Shape, Refusal>
     ensures { result ≡ shape_in place (texts klv payload.now) }
 {
-    if !utf8::are_utf8(payload, wide(klv.size)) {
-        return Shaped::Refused { number: 7, place };
-    }
+    readable(place, klv, payload)?;
     let first = row_text(klv, payload, 0);
-    Shaped::Is(Shape {
+    Ok(Shape {
         kind: Kind::Texts,
         rows: wider(klv.repeat),
         columns: first.len(),

@@ -1,10 +1,16 @@
--- Which bytes of a text are kept: a byte more at the end or at the front, and that the rest are zeros. Assumes nothing.
-use Prim.Native.Nat.{ℕ, zero, suc, ◌-◌, ◌<◌, ◌≤◌}
+-- Which bytes of a text are kept: up to the last that is no zero, or the first zero, and that the rest are zeros. Assumes nothing.
+use Prim.Native.Nat.{ℕ, zero, suc, ◌+◌, ◌-◌, ◌<◌, ◌≤◌}
 use mathlib.Core.Path.{◌≡◌, refl, sym, ap, ◌∙◌}
+use mathlib.Core.Logic.{◌≢◌}
 use mathlib.Core.List.{List, [], ◌∷◌, ◌++◌}
+use native.Mathlib.Decide.{dec_lt}
 use native.Mathlib.Omega.{arith}
-use lib.ListN.{length, length-append, length-take, take, drop, get_or, replicate}
-use lib.Seq.{take-suc, drop-cons, length-take-le, take-append_seam}
+use borrow.Author.Tests.{lt-ltb, le-ltb, ne_eqb}
+use lib.ListN.{length, length-append, length-take, take, get_or, replicate}
+use lib.Seq.{take-append_seam}
+use Rattle.std.specs.Prelude.{nat_eq}
+use Rattle.std.specs.List.{position, position_or_len}
+use Rattle.std.specs.Option.{unwrap_or}
 use Rattle.texts.specs.Kept.{keep, kept, up_to_zero}
 
 -- ---- trailing zeros
@@ -14,29 +20,22 @@ end_zero : (s : List ℕ) → kept (s ++ 0 ∷ []) ≡ kept s
 end_zero [] = refl
 end_zero (b ∷ s) = ap (keep b) (end_zero s)
 
--- what is kept behind a byte keeps it
-keep_some : (a : ℕ) (s : List ℕ) (b : ℕ) → keep a (s ++ b ∷ []) ≡ a ∷ (s ++ b ∷ [])
-keep_some a [] b = refl
-keep_some a (c ∷ s) b = refl
+-- zeros alone are all dropped
+pub all_zeros : (s : List ℕ) → ((k : ℕ) → k < length s → get_or s k 0 ≡ 0) → kept s ≡ []
+all_zeros [] h = refl
+all_zeros (b ∷ s) h = rw (all_zeros s (λ k l. h (suc k) (omega arith)), h 0 (omega arith))
 
--- any other byte keeps all in front of it, zeros too
-end_some : (s : List ℕ) (b : ℕ) → (b ≡ 0 → ⊥) → kept (s ++ b ∷ []) ≡ s ++ b ∷ []
-end_some [] zero h = absurd (h refl)
-end_some [] (suc b) h = refl
-end_some (a ∷ s) b h = ap (keep a) (end_some s b h) ∙ keep_some a s b
+-- a byte in front of some that are kept is kept with them
+in_front : (b i : ℕ) (t : List ℕ) → i + 1 ≡ length t → suc i + 1 ≡ length (keep b t)
+in_front b i [] h = absurd (omega arith)
+in_front b i (c ∷ t) h = omega arith
 
-module _ (s : List ℕ) (n : ℕ) (some : 0 < n) (fits : n ≤ length s) where
-  -- a front of n bytes is one of n - 1 and its last byte
-  last : take n s ≡ take (n - 1) s ++ get_or s (n - 1) 0 ∷ []
-  last =
-      let up : n ≡ suc (n - 1) = omega arith in
-      ap (λ (k : ℕ). take k s) up ∙ take-suc s (n - 1) 0 (omega arith)
-
-  pub last_zero : get_or s (n - 1) 0 ≡ 0 → kept (take n s) ≡ kept (take (n - 1) s)
-  last_zero h = ap kept last ∙ ap (λ (b : ℕ). kept (take (n - 1) s ++ b ∷ [])) h ∙ end_zero (take (n - 1) s)
-
-  pub last_some : (get_or s (n - 1) 0 ≡ 0 → ⊥) → length (kept (take n s)) ≡ n
-  last_some h = ap length (ap kept last ∙ end_some (take (n - 1) s) (get_or s (n - 1) 0) h ∙ sym last) ∙ length-take-le n s fits
+-- the last byte that is no zero is the last that is kept
+pub last_kept : (s : List ℕ) (i : ℕ) → i < length s → get_or s i 0 ≢ 0 → ((k : ℕ) → i < k → k < length s → get_or s k 0 ≡ 0) → i + 1 ≡ length (kept s)
+last_kept [] i l h z = absurd (omega arith)
+last_kept (zero ∷ s) zero l h z = absurd (h refl)
+last_kept (suc b ∷ s) zero l h z = rw (all_zeros s (λ k l. z (suc k) (omega arith) (omega arith)))
+last_kept (b ∷ s) (suc i) l h z = in_front b i (kept s) (last_kept s i (omega arith) h (λ k j l. z (suc k) (omega arith) (omega arith)))
 
 -- A TEXT is its kept bytes and zeros behind them
 pub zeros_behind : (s : List ℕ) → s ≡ kept s ++ replicate (length s - length (kept s)) 0
@@ -76,16 +75,6 @@ pub kept_front : (s : List ℕ) → take (length (kept s)) s ≡ kept s
 kept_front s = ap (take (length (kept s))) (zeros_behind s) ∙ take-append_seam (kept s) (replicate (length s - length (kept s)) 0)
 
 -- ---- the first zero
-pub front_zero : (s : List ℕ) (i : ℕ) → i < length s → get_or s i 0 ≡ 0 → up_to_zero (drop i s) ≡ []
-front_zero s i h e = ap up_to_zero (drop-cons s i 0 h ∙ ap (λ (b : ℕ). b ∷ drop (suc i) s) e)
-
-some_front : (b : ℕ) (s : List ℕ) → (b ≡ 0 → ⊥) → up_to_zero (b ∷ s) ≡ b ∷ up_to_zero s
-some_front zero s h = absurd (h refl)
-some_front (suc b) s h = refl
-
-pub front_some : (s : List ℕ) (i : ℕ) → i < length s → (get_or s i 0 ≡ 0 → ⊥) → length (up_to_zero (drop i s)) ≡ suc (length (up_to_zero (drop (suc i) s)))
-front_some s i h e = ap length (ap up_to_zero (drop-cons s i 0 h) ∙ some_front (get_or s i 0) (drop (suc i) s) e)
-
 -- what is kept is a front of the text
 pub up_to_zero_front : (s : List ℕ) → take (length (up_to_zero s)) s ≡ up_to_zero s
 up_to_zero_front [] = refl
@@ -94,3 +83,16 @@ up_to_zero_front (suc b ∷ s) = ap (λ (t : List ℕ). suc b ∷ t) (up_to_zero
 
 pub up_to_zero_length : (s : List ℕ) → length (up_to_zero s) ≤ length s
 up_to_zero_length s = omega (arith, ap length (up_to_zero_front s), length-take (length (up_to_zero s)) s)
+
+-- as many bytes as stand in front of the first zero, or all
+pub first_zero : (s : List ℕ) → unwrap_or (position (λ b. nat_eq b 0) s) (length s) ≡ length (up_to_zero s)
+first_zero s = go (dec_lt (position_or_len (λ b. nat_eq b 0) s) (length s))
+  where
+    passed : (s : List ℕ) → position_or_len (λ b. nat_eq b 0) s ≡ length (up_to_zero s)
+    passed [] = refl
+    passed (zero ∷ s) = refl
+    passed (suc b ∷ s) = rw (ne_eqb (suc b) 0 (omega arith)) (omega (arith, passed s))
+
+    go : Dec (position_or_len (λ b. nat_eq b 0) s < length s) → unwrap_or (position (λ b. nat_eq b 0) s) (length s) ≡ length (up_to_zero s)
+    go (yes h) = rw (lt-ltb _ _ h) (passed s)
+    go (no h) = rw (le-ltb (position_or_len (λ b. nat_eq b 0) s) (length s) (omega arith)) (omega (arith, passed s, up_to_zero_length s))

@@ -9,26 +9,15 @@ ghost use Rattle.texts.specs.Kept.{kept, up_to_zero};
 pub fn latin1_len(text: &[u8]) -> usize
     ensures { result ≡ length (kept text.now) }
 {
-    let mut n = text.len();
-    while 0 < n {
-        if text[n - 1] != 0 {
-            return n;
-        }
-        n -= 1;
+    match text.iter().rposition(|b| *b != 0) {
+        Some(last) => last + 1,
+        None => 0,
     }
-    0
 }
 
 // The bytes of a UTF-8 text: up to its first zero, or all.
 pub fn utf8_len(text: &[u8]) -> usize
     ensures { result ≡ length (up_to_zero text.now) }
 {
-    let mut i: usize = 0;
-    while i < text.len() {
-        if text[i] == 0 {
-            return i;
-        }
-        i += 1;
-    }
-    i
+    text.iter().position(|b| *b == 0).unwrap_or(text.len())
 }

@@ -22,13 +22,16 @@ use Rattle.reading.specs.Last.{last_item, last_reading}
 use Rattle.reading.specs.Record.{numbers, row_width, no_place}
 use Rattle.reading.specs.Walk.{Outcome, role_of, item_outcome, walk, reading_of, room_of}
 use Rattle.reading.proofs.Samples.{header, item, holding, round, four, five, row}
-use Rattle.last_item.specs.declared.LastItem.{LastItem}
-use Rattle.last_item.specs.declared.LastItem.TheVariants as chain
+use Rattle.std.specs.Prelude.{Option, Some, None, Result, Ok, Err}
+use Rattle.foundation.specs.declared.refusal.Refusal.{Refusal}
+use Rattle.foundation.specs.Refusals.{refuse}
+use Rattle.last_item.specs.declared.Last.{Last}
 use Rattle.last_item.specs.LastItem as last
 use Rattle.walk.specs.declared.Metadata.{Metadata}
-use Rattle.walk.specs.declared.Metadata.TheVariants.{Rows, Refused}
 use Rattle.walk.specs.Metadata.{told}
+use Rattle.walk.proofs.Passes.{counted}
 use Rattle.fixed.specs.Fixed.{q31_32}
+use Rattle.elements.specs.declared.Element.{Element}
 use Rattle.elements.specs.declared.Element.TheVariants.{Unsigned, Double}
 use Rattle.elements.specs.Types.{width_of}
 use Rattle.elements.specs.Element.{element_of, element_at}
@@ -38,40 +41,35 @@ use Rattle.custom_type.specs.Expansion.{copied, step, gone_through, expanded}
 use Rattle.dates.specs.Calendar.{milliseconds_of, possible_day, possible_time, days_of_month, days_of_months, days_of_year, days_of_years}
 use Rattle.dates.specs.Fields.{day_of, time_of, year, unsigned}
 use Rattle.dates.specs.Date.{date_of}
-use Rattle.value.specs.declared.Read.{Read}
-use Rattle.value.specs.declared.Read.TheVariants as read
 use Rattle.value.specs.Value.{kind_of, is_quaternions, letter_plan, plan_of}
 use Rattle.items.specs.At.{found_at}
 use Rattle.values.specs.At.{element_of_found}
 use Rattle.axes.specs.declared.Axes.{Axes}
-use Rattle.axes.specs.declared.Orientation.{Orientation}
-use Rattle.axes.specs.declared.Orientation.TheVariants as orientation
 use Rattle.axes.specs.declared.Orientations.{Orientations}
-use Rattle.axes.specs.declared.Orientations.TheVariants as orientations
 use Rattle.axes.specs.Matrix.{one, minus_one, nought, three_ascii, orientations_of, entry_of, matrix_of}
 use Rattle.axes.specs.Back.{beyond, lettered, orientation_of}
 
 -- what a case comes to
-pub data Result : Type 0 where
-  reading : Metadata → List ℕ → Result  -- how many rows and headers, or a refusal, and the lent numbers
-  last_item-of : LastItem → Result
-  text : List ℕ → Result
-  element : Read → Result
-  matrix : List (List Float) → Result
-  axes : Orientation → Result
+pub data Coming : Type 0 where
+  reading : Result Metadata Refusal → List ℕ → Coming  -- how many rows and headers, or a refusal, and the lent numbers
+  last_item-of : Result (Option Last) Refusal → Coming
+  text : List ℕ → Coming
+  element : Result Element Refusal → Coming
+  matrix : List (List Float) → Coming
+  axes : Result Axes Refusal → Coming
 
 pub data Case : Type 0 where
-  walks : List ℕ → Bool → Metadata → List (List ℕ) → Case  -- a payload, whether the caller's group is forced, what is told, and the rows that are written
-  chains : List ℕ → LastItem → Case  -- a payload, and its last item
+  walks : List ℕ → Bool → Result Metadata Refusal → List (List ℕ) → Case  -- a payload, whether the caller's group is forced, what is told, and the rows that are written
+  chains : List ℕ → Result (Option Last) Refusal → Case  -- a payload, and its last item
   expands : String → String → Case  -- a TYPE text, and what it is written out to
-  reads : List ℕ → Read → Case  -- an item, and its first element
+  reads : List ℕ → Result Element Refusal → Case  -- an item, and its first element
   turns : String → String → List (List Float) → Case  -- the texts of ORIN and ORIO, and their matrix
   names : List (List Float) → Axes → Case  -- a matrix, and the axes that it names
 
 -- the matrix of ORIN and ORIO, or their refusal
-abbrev of_texts : Orientations → Result
-of_texts (orientations.Are orin orio) = matrix (matrix_of orin orio)
-of_texts (orientations.Refused number place) = axes (orientation.Refused number place)
+abbrev of_texts : Result Orientations Refusal → Coming
+of_texts (Ok both) = matrix (matrix_of both.orin both.orio)
+of_texts (Err r) = axes (Err r)
 
 -- the numbers that are lent, which have room for one row
 abbrev old : List ℕ
@@ -86,7 +84,7 @@ flat [] = []
 flat (row ∷ rows) = row ++ flat rows
 
 -- what the definitions come to
-abbrev pub comes : Case → Result
+abbrev pub comes : Case → Coming
 comes (walks payload forced said written) = reading (told (reads_to forced payload)) (lent (reads_to forced payload) old)
 comes (chains payload said) = last_item-of (last.told (last_reading payload))
 comes (expands given said) = text (expanded (characters given))
@@ -95,13 +93,13 @@ comes (turns orin orio said) = of_texts (orientations_of (characters orin) (char
 comes (names given said) = axes (orientation_of given)
 
 -- what document 01 says
-abbrev pub says : Case → Result
+abbrev pub says : Case → Coming
 says (walks payload forced said written) = reading said (flat written ++ drop (length written * row_width) old)
 says (chains payload said) = last_item-of said
 says (expands given said) = text (characters said)
 says (reads item said) = element said
 says (turns orin orio said) = matrix said
-says (names given said) = axes (orientation.Is said)
+says (names given said) = axes (Ok said)
 
 -- ---- what is given
 
@@ -125,21 +123,21 @@ single letter size bytes = characters "ABCD" ++ (characters letter ++ (size ∷ 
 abbrev pub cases : List Case
 cases =
     -- 1
-    walks [] false (Rows 0 0) []
-    ∷ chains [] chain.Nothing
+    walks [] false (counted 0 0) []
+    ∷ chains [] (Ok None)
     -- 2
-    ∷ walks (five ++ 6 ∷ 7 ∷ []) false (Rows 0 0) []
-    ∷ chains (five ++ 6 ∷ 7 ∷ []) (chain.Stopped 3 0)
+    ∷ walks (five ++ 6 ∷ 7 ∷ []) false (counted 0 0) []
+    ∷ chains (five ++ 6 ∷ 7 ∷ []) (refuse 3 0)
     -- 3
-    ∷ walks (item "ABCD" (code "B") 5 1 five) false (Rows 1 1) (row 0 0 0 0 (key "ABCD") 0x42_05_0001 no_place 0 ∷ [])
+    ∷ walks (item "ABCD" (code "B") 5 1 five) false (counted 1 1) (row 0 0 0 0 (key "ABCD") 0x42_05_0001 no_place 0 ∷ [])
     -- 4
-    ∷ walks (item "ABCD" (code "B") 6 1 five) false (Refused 2 0) []
+    ∷ walks (item "ABCD" (code "B") 6 1 five) false (refuse 2 0) []
     -- 5
-    ∷ walks (item "GYRO" (code "s") 6 0 []) false (Rows 0 1) []
-    ∷ chains (item "GYRO" (code "s") 6 0 []) (chain.Last 0 (header "GYRO" (code "s") 6 0))
+    ∷ walks (item "GYRO" (code "s") 6 0 []) false (counted 0 1) []
+    ∷ chains (item "GYRO" (code "s") 6 0 []) (Ok (Some (record { place = 0; klv = header "GYRO" (code "s") 6 0 })))
     -- 6
-    ∷ walks (holding "STRM" four) false (Refused 3 0) []
-    ∷ walks (holding "STRM" four) true (Rows 0 1) []
+    ∷ walks (holding "STRM" four) false (refuse 3 0) []
+    ∷ walks (holding "STRM" four) true (counted 0 1) []
     -- 7
     ∷ expands "f[3]" "fff"
     ∷ expands "f[0]" "f"
@@ -150,18 +148,18 @@ cases =
     ∷ expands "Lff[2" "Lff"
     ∷ expands "f[18446744073709551616]" "f"
     -- 8: parts 0 and 4294967295
-    ∷ reads (single "Q" 8 (bytes_of 8 0x0000_0000_ffff_ffff)) (read.Is (Double (of_int binary64 (pos 1))))
+    ∷ reads (single "Q" 8 (bytes_of 8 0x0000_0000_ffff_ffff)) (Ok (Double (of_int binary64 (pos 1))))
     -- 9
-    ∷ reads (single "U" 16 (characters "240229120000.000")) (read.Is (Unsigned 1709208000000))
-    ∷ reads (single "U" 16 (characters "230229120000.000")) (read.Is (Unsigned 0))
+    ∷ reads (single "U" 16 (characters "240229120000.000")) (Ok (Unsigned 1709208000000))
+    ∷ reads (single "U" 16 (characters "230229120000.000")) (Ok (Unsigned 0))
     -- 10
     ∷ turns "YxZ" "XYZ" turned
     ∷ names turned (three (code "y") (code "X") (code "Z"))
     -- 11
-    ∷ walks (round 16 (item "GYRO" (code "B") 1 1 (7 ∷ []))) false (Rows 1 17) (row 128 1 (key "GYRO") 1 (key "GYRO") 0x42_01_0001 no_place 16 ∷ [])
-    ∷ walks (round 17 (item "GYRO" (code "B") 1 1 (7 ∷ []))) false (Refused 4 0) []
+    ∷ walks (round 16 (item "GYRO" (code "B") 1 1 (7 ∷ []))) false (counted 1 17) (row 128 1 (key "GYRO") 1 (key "GYRO") 0x42_01_0001 no_place 16 ∷ [])
+    ∷ walks (round 17 (item "GYRO" (code "B") 1 1 (7 ∷ []))) false (refuse 4 0) []
     -- 12
-    ∷ walks twelve false (Rows 1 3) (row 8 1 (key "GYRO") 4 (key "SCAL") 0x73_02_0001 no_place 1 ∷ [])
+    ∷ walks twelve false (counted 1 3) (row 8 1 (key "GYRO") 4 (key "SCAL") 0x73_02_0001 no_place 1 ∷ [])
     ∷ []
 
 pub marked_cases : map comes cases ≡ map says cases

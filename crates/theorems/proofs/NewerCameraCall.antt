@@ -22,9 +22,11 @@ use Rattle.reading.proofs.Stand.{InForceStands, Stands, read_stands}
 use Rattle.items.specs.At.{Found, found_at}
 use Rattle.metadata.proofs.parse_metadata.Kinds as call
 use Rattle.metadata.proofs.parse_metadata.Reads as promise
-use Rattle.walk.specs.declared.Metadata.{Metadata}
-use Rattle.walk.specs.declared.Metadata.TheVariants.{Rows, Refused}
+use Rattle.std.specs.Prelude.{Ok, Err}
+use Rattle.foundation.specs.Refusals.{refuse}
 use Rattle.walk.specs.Metadata.{told, Read}
+use Rattle.walk.proofs.Passes as passes
+use Rattle.walk.proofs.Passes.{Answer, counted}
 use Rattle.newer_camera.specs.PutIn.{PutIn}
 use Rattle.newer_camera.specs.OtherBytes.{OtherBytes}
 use Rattle.newer_camera.specs.Rows.{new_rows, put_before, moved_type, moved_by, moved}
@@ -80,10 +82,10 @@ pub record CalledRows (forced : Bool) {s t : List ℕ} (put : PutIn s t) (n : �
   pub same_value : (row : List ℕ) → Memᴰ row (rows_in n was) → found_by t (old_row put row) ≡ found_by s row
 
 -- "unless it passes the length limit or the lent room; no other refusal occurs": the three cases shut each other out, so each is given then and not otherwise
-abbrev pub Called : Bool → {s t : List ℕ} → PutIn s t → ℕ → List ℕ → ℕ → Metadata → List ℕ → Type 0
-Called forced put n was room (Rows m headers) is = CalledRows forced put n was room m is
-Called forced {t = t} put n was room (Refused number place) is =
-    ((number ≡ 1) × (most_bytes < length t)) ⊎ ((number ≡ 5) × (length t ≤ most_bytes) × (room < n + length (new_rows forced put)))
+abbrev pub Called : Bool → {s t : List ℕ} → PutIn s t → ℕ → List ℕ → ℕ → Answer → List ℕ → Type 0
+Called forced put n was room (Ok m) is = CalledRows forced put n was room m.rows is
+Called forced {t = t} put n was room (Err r) is =
+    ((r.number ≡ 1) × (most_bytes < length t)) ⊎ ((r.number ≡ 5) × (length t ≤ most_bytes) × (room < n + length (new_rows forced put)))
 
 -- ---- the proof
 
@@ -155,25 +157,25 @@ module _ (forced : Bool) {s t : List ℕ} (put : PutIn s t) (rs : List Record) (
   met_called room (refused too_deep at) never = absurd never
 
 -- THE CALL: with the old payload answered by n rows, and the new one with whatever numbers are lent, both with the group forced or both without
-pub newer_camera_call : (forced : Bool) {s t : List ℕ} (put : PutIn s t) (old was : List ℕ) (n headers : ℕ) (held is : List ℕ) (answer : Metadata)
-    → Read (reading_of forced s (room_of (length old))) old (Rows n headers) was → Read (reading_of forced t (room_of (length held))) held answer is
+pub newer_camera_call : (forced : Bool) {s t : List ℕ} (put : PutIn s t) (old was : List ℕ) (n headers : ℕ) (held is : List ℕ) (answer : Answer)
+    → Read (reading_of forced s (room_of (length old))) old (counted n headers) was → Read (reading_of forced t (room_of (length held))) held answer is
     → Called forced put n was (room_of (length held)) answer is
 newer_camera_call forced {s = s} {t = t} put old was n headers held is answer before after = go (reading_of forced s (room_of (length old))) refl before.is before.rows
   where
     room : ℕ
     room = room_of (length held)
 
-    go : (o : Outcome) → reading_of forced s (room_of (length old)) ≡ o → Rows n headers ≡ told o → was ≡ lent o old → Called forced put n was room answer is
+    go : (o : Outcome) → reading_of forced s (room_of (length old)) ≡ o → counted n headers ≡ told o → was ≡ lent o old → Called forced put n was room answer is
     go (refused why at) e a w = let z : ◌≡◌ {A = ℕ} 0 1 = cc in absurd (omega arith)
     go (accepted rs k) e a w =
-        let as_many : n ≡ length rs = cc in
+        let as_many : n ≡ length rs = ap passes.rows_in a in
         rw (as_many, w, after.is, after.rows)
         (met_called forced put rs (accepted_within forced s (room_of (length old)) rs k e) (read_stands forced s (room_of (length old)) rs k e) (drop (length rs * row_width) old) held room
         (reading_of forced t room) ((newer_camera forced s t put (room_of (length old)) rs k e).met room))
 
 -- the same of the promise as the prover reads it off the source of `parse_metadata`, where both calls force the group or neither does
 pub called : (κs : Lfts 2) (a b : Dens κs call.ps) (n headers : ℕ) (y : (res_t call.r κs).Denot) (u v : AtExit (ended_of 2 call.ps call.r) κs) (put : PutIn a.0.now b.0.now)
-    → b.1.0 ≡ a.1.0 → promise.Learnt κs a (Rows n headers) u → promise.Learnt κs b y v
+    → b.1.0 ≡ a.1.0 → promise.Learnt κs a (counted n headers) u → promise.Learnt κs b y v
     → Called a.1.0 put n u.1.1.0.now (room_of (length b.1.1.0.now)) y v.1.1.0.now
 called κs a b n headers y u v put same p q =
     newer_camera_call a.1.0 put a.1.1.0.now u.1.1.0.now n headers b.1.1.0.now v.1.1.0.now y p
@@ -197,16 +199,16 @@ same_call held (accepted rs k) (accepted ts j) e =
     let n : map numbers rs ≡ map numbers ts = cc in
     let k_j : k ≡ j = cc in
     let l : length rs ≡ length ts = same_length rs ts n in
-    ((λ i. Rows (l i) (k_j i)), (λ i. same_flat rs ts n i ++ drop (l i * row_width) held))
+    ((λ i. counted (l i) (k_j i)), (λ i. same_flat rs ts n i ++ drop (l i * row_width) held))
 same_call held (accepted rs k) (refused why at) e = let z : ◌≡◌ {A = ℕ} 0 1 = cc in absurd (omega arith)
 same_call held (refused why at) (accepted ts j) e = let z : ◌≡◌ {A = ℕ} 0 1 = cc in absurd (omega arith)
 same_call held (refused why at) (refused w p) e =
     let n : number why ≡ number w = cc in
     let a : at ≡ p = cc in
-    ((λ i. Refused (n i) (a i)), refl)
+    ((λ i. refuse (n i) (a i)), refl)
 
 -- "Changing payload bytes of new items alters no old record": lent the same numbers, the call answers the same and leaves the same numbers, new rows and all
-pub unaltered_call : (forced : Bool) {s t u : List ℕ} {put : PutIn s t} → OtherBytes s t put u → (held : List ℕ) (x y : Metadata) (is other : List ℕ)
+pub unaltered_call : (forced : Bool) {s t u : List ℕ} {put : PutIn s t} → OtherBytes s t put u → (held : List ℕ) (x y : Answer) (is other : List ℕ)
     → Read (reading_of forced t (room_of (length held))) held x is → Read (reading_of forced u (room_of (length held))) held y other → (y ≡ x) × (other ≡ is)
 unaltered_call forced {t = t} {u = u} o held x y is other p q =
     let same = same_call held (reading_of forced u (room_of (length held))) (reading_of forced t (room_of (length held))) (answer_unaltered o forced (room_of (length held))) in

@@ -1,5 +1,5 @@
 -- ONE ANSWER: for each public call, two answers that both keep its promise on the same arguments are equal.
--- `Learnt` is what the prover reads off the `ensures` of the source: no promise is copied here. Assumes nothing.
+-- A lemma for each call, since each has a type of its own by the source. `Learnt` is what the prover reads off the `ensures` of the source: no promise is copied here. Assumes nothing.
 use Prim.Native.Nat.{ℕ}
 use mathlib.Core.Path.{◌≡◌, sym, ◌∙◌}
 use mathlib.Core.List.{List}
@@ -13,6 +13,8 @@ use contract.Monad.{Fun, fact, fact_i, fact_use}
 use denote.Triple.Clauses.{Ended, Clauses, AtExit}
 use denote.Triple.Entry.{Args, Res}
 use borrow.Fn.Kinds.{ParamKind, ResultKind, Out, Dens, res_t, ended_of}
+use Rattle.foundation.proofs.refusal.Fault.at.Kinds as fault-at-kinds
+use Rattle.foundation.proofs.refusal.Fault.at.Reads as fault-at-reads
 use Rattle.foundation.proofs.big_endian.Kinds as big-endian-kinds
 use Rattle.foundation.proofs.big_endian.Reads as big-endian-reads
 use Rattle.text.proofs.put.Kinds as put-kinds
@@ -201,6 +203,8 @@ use Rattle.payload_values.proofs.shape_of.Kinds as shape-of-kinds
 use Rattle.payload_values.proofs.shape_of.Reads as shape-of-reads
 use Rattle.payload_values.proofs.columns_of.Kinds as columns-of-kinds
 use Rattle.payload_values.proofs.columns_of.Reads as columns-of-reads
+use Rattle.items.proofs.Span.of.Kinds as span-of-kinds
+use Rattle.items.proofs.Span.of.Reads as span-of-reads
 use Rattle.items.proofs.item_at.Kinds as item-at-kinds
 use Rattle.items.proofs.item_at.Reads as item-at-reads
 use Rattle.values.proofs.klv_at.Kinds as klv-at-kinds
@@ -255,8 +259,7 @@ use Rattle.matrix_to_axes.proofs.matrix_to_orientation.Kinds as matrix-to-orient
 use Rattle.matrix_to_axes.proofs.matrix_to_orientation.Reads as matrix-to-orientation-reads
 use Rattle.matrix_to_axes.proofs.mtrx_to_orientation.Kinds as mtrx-to-orientation-kinds
 use Rattle.matrix_to_axes.proofs.mtrx_to_orientation.Reads as mtrx-to-orientation-reads
-use Rattle.orientation.proofs.orientation_of_group.Kinds as orientation-of-group-kinds
-use Rattle.orientation.proofs.orientation_of_group.Reads as orientation-of-group-reads
+use Rattle.orientation.specs.contracts.orientation_of_group as orientation-of-group-promise
 use Rattle.search.proofs.find_devc.Kinds as find-devc-kinds
 use Rattle.search.proofs.find_devc.Reads as find-devc-reads
 use Rattle.search.proofs.devc_or_end.Kinds as devc-or-end-kinds
@@ -279,18 +282,15 @@ use Rattle.float_bits.proofs.single_bits.Kinds as single-bits-kinds
 use Rattle.float_bits.proofs.single_bits.Reads as single-bits-reads
 use Rattle.float_bits.proofs.double_bits.Kinds as double-bits-kinds
 use Rattle.float_bits.proofs.double_bits.Reads as double-bits-reads
-use Rattle.tagged.proofs.tagged_item.Kinds as tagged-item-kinds
-use Rattle.tagged.proofs.tagged_item.Reads as tagged-item-reads
+use Rattle.tagged.specs.contracts.Group.tagged as group-tagged-promise
 use Rattle.tagged.proofs.is_one_number.Kinds as is-one-number-kinds
 use Rattle.tagged.proofs.is_one_number.Reads as is-one-number-reads
 use Rattle.scaling.proofs.negated.Kinds as negated-kinds
 use Rattle.scaling.proofs.negated.Reads as negated-reads
 use Rattle.scaling.proofs.scaled.Kinds as scaled-kinds
 use Rattle.scaling.proofs.scaled.Reads as scaled-reads
-use Rattle.quaternions.proofs.scaled_quaternion.Kinds as scaled-quaternion-kinds
-use Rattle.quaternions.proofs.scaled_quaternion.Reads as scaled-quaternion-reads
-use Rattle.stamps.proofs.stamp_us.Kinds as stamp-us-kinds
-use Rattle.stamps.proofs.stamp_us.Reads as stamp-us-reads
+use Rattle.quaternions.specs.contracts.scaled_quaternion as scaled-quaternion-promise
+use Rattle.stamps.specs.contracts.stamp_us as stamp-us-promise
 use Rattle.durations.proofs.get_avg_sample_duration.Kinds as get-avg-sample-duration-kinds
 use Rattle.durations.proofs.get_avg_sample_duration.Reads as get-avg-sample-duration-reads
 use Rattle.elements.proofs.exact_at.Kinds as exact-at-kinds
@@ -309,6 +309,9 @@ abbrev pub OneResult : (n : ℕ) (parameters : List (ParamKind n)) (result : Res
 OneResult n parameters result promise =
     (κs : Lfts n) (a : Dens κs parameters) (x y : (res_t result κs).Denot) (s t : AtExit (ended_of n parameters result) κs)
     → promise κs a x s → promise κs a y t → x ≡ y
+
+pub fault_at : OneResult 0 fault-at-kinds.ps fault-at-kinds.r fault-at-reads.Learnt
+fault_at κs a x y s t p q = p ∙ sym q
 
 pub big_endian_lem : OneResult 1 big-endian-kinds.ps big-endian-kinds.r big-endian-reads.Learnt
 big_endian_lem κs a x y s t p q = p ∙ sym q
@@ -425,6 +428,10 @@ shape_of κs a x y s t p q = p ∙ sym q
 
 pub columns_of_lem : OneResult 2 columns-of-kinds.ps columns-of-kinds.r columns-of-reads.Learnt
 columns_of_lem κs a x y s t p q = p ∙ sym q
+
+pub span_of : (κs : Lfts 1) (a : Dens κs span-of-kinds.ps) (x y : (res_t span-of-kinds.r κs).Denot) (s t : AtExit (ended_of 1 span-of-kinds.ps span-of-kinds.r) κs)
+    → span-of-reads.Learnt κs a x s → span-of-reads.Learnt κs a y t → x.now ≡ y.now
+span_of κs a x y s t p q = p ∙ sym q
 
 pub item_at : OneResult 1 item-at-kinds.ps item-at-kinds.r item-at-reads.Learnt
 item_at κs a x y s t p q = p.is ∙ sym q.is
@@ -569,9 +576,6 @@ matrix_to_orientation κs a x y s t p q = p ∙ sym q
 pub mtrx_to_orientation : OneResult 1 mtrx-to-orientation-kinds.ps mtrx-to-orientation-kinds.r mtrx-to-orientation-reads.Learnt
 mtrx_to_orientation κs a x y s t p q = p ∙ sym q
 
-pub orientation_of_group_lem : OneResult 2 orientation-of-group-kinds.ps orientation-of-group-kinds.r orientation-of-group-reads.Learnt
-orientation_of_group_lem κs a x y s t p q = p ∙ sym q
-
 pub find_devc : OneResult 1 find-devc-kinds.ps find-devc-kinds.r find-devc-reads.Learnt
 find_devc κs a x y s t p q = p ∙ sym q
 
@@ -605,9 +609,6 @@ single_bits_lem κs a x y s t p q = p ∙ sym q
 pub double_bits_lem : OneResult 0 double-bits-kinds.ps double-bits-kinds.r double-bits-reads.Learnt
 double_bits_lem κs a x y s t p q = p ∙ sym q
 
-pub tagged_item : OneResult 2 tagged-item-kinds.ps tagged-item-kinds.r tagged-item-reads.Learnt
-tagged_item κs a x y s t p q = p ∙ sym q
-
 pub is_one_number : OneResult 0 is-one-number-kinds.ps is-one-number-kinds.r is-one-number-reads.Learnt
 is_one_number κs a x y s t p q = p ∙ sym q
 
@@ -616,12 +617,6 @@ negated κs a x y s t p q = p ∙ sym q
 
 pub scaled : OneResult 0 scaled-kinds.ps scaled-kinds.r scaled-reads.Learnt
 scaled κs a x y s t p q = p ∙ sym q
-
-pub scaled_quaternion : OneResult 2 scaled-quaternion-kinds.ps scaled-quaternion-kinds.r scaled-quaternion-reads.Learnt
-scaled_quaternion κs a x y s t p q = p ∙ sym q
-
-pub stamp_us : OneResult 2 stamp-us-kinds.ps stamp-us-kinds.r stamp-us-reads.Learnt
-stamp_us κs a x y s t p q = p ∙ sym q
 
 pub get_avg_sample_duration : OneResult 5 get-avg-sample-duration-kinds.ps get-avg-sample-duration-kinds.r get-avg-sample-duration-reads.Learnt
 get_avg_sample_duration κs a x y s t p q = p ∙ sym q
@@ -759,7 +754,7 @@ both_said : {M : Type 1} (𝓤 : Ura M) (φ ψ χ : Type 0) → (φ → ψ → �
 both_said 𝓤 φ ψ χ f =
     fact_use 𝓤 φ (fst∗ 𝓤 (fact 𝓤 φ) (fact 𝓤 ψ)) (λ p. fact_use 𝓤 ψ (snd∗ 𝓤 (fact 𝓤 φ) (fact 𝓤 ψ)) (λ q. fact_i 𝓤 χ (sep 𝓤 (fact 𝓤 φ) (fact 𝓤 ψ)) (f p q)))
 
--- of a method of a view nothing is read off the source but the clauses themselves: what they ensure of two results, together, says that what `of` reads of them is the same
+-- of a method of a view, and of what is asked of a group, nothing is read off the source but the clauses themselves: what they ensure of two results, together, says that what `of` reads of them is the same
 abbrev pub OneOfMethod : {M : Type 1} (𝓤 : Ura M) {B : Type 0} (T : Ended) → ((κs : Lfts T.signature.lifetimes) → Res T.signature κs → B) → Clauses 𝓤 T → Type 1
 OneOfMethod 𝓤 T of promise =
     (κs : Lfts T.signature.lifetimes) (a : Args T.signature κs) (g : (promise κs a).ghost) (x y : Res T.signature κs) (s t : AtExit T κs)
@@ -788,3 +783,17 @@ view_new {𝓤 = 𝓤} 𝓛 mem run κs a g x y s t = both_said 𝓤 _ _ (x ≡ 
 
 pub view_part : {M : Type 1} {𝓤 : Ura M} (𝓛 : Logic 𝓤) (mem : Memory → SProp 𝓤) (run : Routine → Fun 𝓤) → OneOfMethod 𝓤 view-part-promise.ended (λ κs r. r.now) (view-part-promise.clauses 𝓛 mem run)
 view_part {𝓤 = 𝓤} 𝓛 mem run κs a g x y s t = both_said 𝓤 _ _ (x.now ≡ y.now) (λ p q. p ∙ sym q)
+
+-- ---- a group, by the clauses as of a view
+
+pub tagged_item : {M : Type 1} {𝓤 : Ura M} (𝓛 : Logic 𝓤) (mem : Memory → SProp 𝓤) (run : Routine → Fun 𝓤) → OneOfMethod 𝓤 group-tagged-promise.ended (λ κs r. r) (group-tagged-promise.clauses 𝓛 mem run)
+tagged_item {𝓤 = 𝓤} 𝓛 mem run κs a g x y s t = both_said 𝓤 _ _ (x ≡ y) (λ p q. p ∙ sym q)
+
+pub orientation_of_group_lem : {M : Type 1} {𝓤 : Ura M} (𝓛 : Logic 𝓤) (mem : Memory → SProp 𝓤) (run : Routine → Fun 𝓤) → OneOfMethod 𝓤 orientation-of-group-promise.ended (λ κs r. r) (orientation-of-group-promise.clauses 𝓛 mem run)
+orientation_of_group_lem {𝓤 = 𝓤} 𝓛 mem run κs a g x y s t = both_said 𝓤 _ _ (x ≡ y) (λ p q. p ∙ sym q)
+
+pub scaled_quaternion : {M : Type 1} {𝓤 : Ura M} (𝓛 : Logic 𝓤) (mem : Memory → SProp 𝓤) (run : Routine → Fun 𝓤) → OneOfMethod 𝓤 scaled-quaternion-promise.ended (λ κs r. r) (scaled-quaternion-promise.clauses 𝓛 mem run)
+scaled_quaternion {𝓤 = 𝓤} 𝓛 mem run κs a g x y s t = both_said 𝓤 _ _ (x ≡ y) (λ p q. p ∙ sym q)
+
+pub stamp_us : {M : Type 1} {𝓤 : Ura M} (𝓛 : Logic 𝓤) (mem : Memory → SProp 𝓤) (run : Routine → Fun 𝓤) → OneOfMethod 𝓤 stamp-us-promise.ended (λ κs r. r) (stamp-us-promise.clauses 𝓛 mem run)
+stamp_us {𝓤 = 𝓤} 𝓛 mem run κs a g x y s t = both_said 𝓤 _ _ (x ≡ y) (λ p q. p ∙ sym q)

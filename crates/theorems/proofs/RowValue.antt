@@ -15,9 +15,12 @@ use Rattle.reading.specs.Record.{Record, type_place}
 use Rattle.reading.specs.Walk.{accepted, reading_of}
 use Rattle.reading.proofs.Payload.{accepted_within}
 use Rattle.reading.proofs.Stand.{read_stands}
-use Rattle.dates.specs.declared.Date.{Date}
-use Rattle.dates.specs.declared.Date.TheVariants.{Milliseconds, TooFew, Unreadable}
-use Rattle.dates.specs.Date.{date_of}
+use Rattle.std.specs.Prelude.{ltb, Option, Some, None, Err}
+use Rattle.foundation.specs.declared.refusal.Fault.TheVariants as fault
+use Rattle.dates.specs.declared.fields.Day.{Day}
+use Rattle.dates.specs.declared.fields.Time.{Time}
+use Rattle.dates.specs.Fields.{day_of, time_of}
+use Rattle.dates.specs.Date.{moment, date_of}
 use Rattle.custom_type.specs.Expansion.{expanded}
 use Rattle.value.specs.declared.Plan.{Plan}
 use Rattle.value.specs.declared.Plan.TheVariants as plan
@@ -65,10 +68,19 @@ gridded_own g payload =
     own_if 6 (inl refl) (record { kind = g.kind; rows = g.rows; columns = λ row. g.columns; element = placed g payload })
     (leb (g.rows * g.columns * width_of g.letter) (length payload))
 
-dated_own : (d : Date) → OwnRefusal (dated d)
-dated_own (Milliseconds n) = tt
-dated_own TooFew = inl refl
-dated_own Unreadable = inr (inl refl)
+-- a date is refused with 6 where bytes are missing, and with 7 where what they say is not read
+dated_own : (text : List ℕ) → OwnRefusal (dated (date_of text))
+unfolding date_of
+dated_own text = by_length (ltb (length text) 16)
+  where
+    by_fields : (d : Option Day) (t : Option Time) → OwnRefusal (dated (moment d t))
+    by_fields (Some d) (Some t) = tt
+    by_fields (Some d) None = inr (inl refl)
+    by_fields None t = inr (inl refl)
+
+    by_length : (few : Bool) → OwnRefusal (dated (cond few (Err fault.TooFew) (moment (day_of text) (time_of text))))
+    by_length true = inl refl
+    by_length false = by_fields (day_of text) (time_of text)
 
 structured_own : (letters : List ℕ) (h : KLV) (payload : List ℕ) → OwnRefusal (structured letters h payload)
 structured_own letters h payload = own_if 6 (inl refl) _ (leb (h.repeat * widths_of letters) (length payload))
@@ -90,5 +102,5 @@ own_refusal h payload type = go (plan_of h payload)
     go : (p : Plan) → OwnRefusal (value_by p h payload type)
     go (plan.Even g) = gridded_own g payload
     go plan.Texts = texts_own h payload
-    go plan.Date = dated_own (date_of payload)
+    go plan.Date = dated_own payload
     go plan.Structures = structures_own type h payload

@@ -21,26 +21,28 @@ use Rattle.reading.proofs.Row.{rows_width, room_fits}
 use Rattle.reading.proofs.Stand.{Stands, read_stands}
 use Rattle.rows.specs.Row.{taken, row_of}
 use Rattle.rows.specs.Lookup.{later_or, matching, last_from, lookup_of}
-use Rattle.rows.specs.declared.Found.{Found}
-use Rattle.rows.specs.declared.Found.TheVariants as row
 use Rattle.rows.proofs.Search.{rows_of_records}
 use Rattle.items.specs.At as At
 use Rattle.items.specs.At.{found_at}
 use Rattle.values.specs.At.{klv_of_found}
-use Rattle.values.specs.declared.Headed.{Headed}
-use Rattle.values.specs.declared.Headed.TheVariants as headed
-use Rattle.tagged.specs.Tagged.{item_by, tagged_at, item_of, tagged_of}
+use Rattle.tagged.specs.Tagged.{item_is, item_by, tagged_at, item_of, tagged_of}
 use Rattle.tagged.specs.declared.Tagged.{Tagged}
-use Rattle.tagged.specs.declared.Tagged.TheVariants.{Is, Nothing, Refused}
+use Rattle.klv.specs.declared.KLV.{KLV}
+use Rattle.std.specs.Prelude.{Option, Some, None, Result, Ok, Err}
+use Rattle.foundation.specs.declared.refusal.Refusal.{Refusal}
 use Rattle.newer_camera.proofs.Value.{found_there}
 
 -- ---- what is to be found, by the records alone
 
+-- an item, none, or a refusal
+abbrev pub Answer : Type 0
+Answer = Result (Option Tagged) Refusal
+
 -- the item of a later record, or else that of this one
-abbrev pub later_item : Tagged → Tagged → Tagged
-later_item (Is h place) here = Is h place
-later_item Nothing here = here
-later_item (Refused number place) here = Refused number place
+abbrev pub later_item : Answer → Answer → Answer
+later_item (Ok (Some found)) here = Ok (Some found)
+later_item (Ok None) here = here
+later_item (Err r) here = Err r
 
 -- of a group (by its kind and its key), a tag and a key
 module _ (kind of-group tag key : ℕ) where
@@ -51,37 +53,36 @@ module _ (kind of-group tag key : ℕ) where
       && (not (eqb tag 0) || eqb r.content.header.key key)
 
   -- THE LAST ONE of some records: its header and its place
-  abbrev pub last_item_of : List Record → Tagged
-  last_item_of [] = Nothing
-  last_item_of (r ∷ rs) = later_item (last_item_of rs) (cond (asked r) (Is r.content.header r.place) Nothing)
+  abbrev pub last_item_of : List Record → Answer
+  last_item_of [] = Ok None
+  last_item_of (r ∷ rs) = later_item (last_item_of rs) (cond (asked r) (item_is r.content.header r.place) (Ok None))
 
 -- ---- the proof
 
 module _ (s : List ℕ) (within : length s ≤ most_bytes) where
   -- an item at a place is there or refused, and never nothing
-  keeps : (place : ℕ) (other : Tagged) → later_item (tagged_at s place) other ≡ tagged_at s place
+  keeps : (place : ℕ) (other : Answer) → later_item (tagged_at s place) other ≡ tagged_at s place
   unfolding tagged_at
   keeps place other = go (klv_of_found (found_at s place no_place))
     where
-      go : (h : Headed) → later_item (item_by h place) other ≡ item_by h place
-      go (headed.Is h) = refl
-      go (headed.Refused number at) = refl
+      go : (h : Result KLV Refusal) → later_item (item_by h place) other ≡ item_by h place
+      go (Ok h) = refl
+      go (Err r) = refl
 
   -- of a record that stands there, whatever TYPE is in force
-  there : (r : Record) → Stands s r → tagged_at s r.place ≡ Is r.content.header r.place
+  there : (r : Record) → Stands s r → tagged_at s r.place ≡ item_is r.content.header r.place
   unfolding tagged_at
   there r stands =
       ap (λ (f : At.Found). item_by (klv_of_found f) r.place)
       (found_there s within (record { place = r.place; type = no_type; content = r.content }) (record { item = stands.item; type = tt; row = stands.row }))
 
   module _ (all : List ℕ) where
-    abbrev item : Found → Tagged
-    item f = item_of s all f
+    abbrev item : Option ℕ → Answer
+    item f = item_of s all (Ok f)
 
-    later : (f here : Found) → item (later_or f here) ≡ later_item (item f) (item here)
-    later (row.At n) here = sym (keeps (row_of all n).place (item here))
-    later row.Nothing here = refl
-    later (row.Refused number place) here = refl
+    later : (f here : Option ℕ) → item (later_or f here) ≡ later_item (item f) (item here)
+    later (Some n) here = sym (keeps (row_of all n).place (item here))
+    later None here = refl
 
     module _ (kind of-group tag key : ℕ) where
       -- the rows from an index on are those of some records
@@ -94,12 +95,12 @@ module _ (s : List ℕ) (within : length s ≤ most_bytes) where
           let behind : drop (suc n * row_width) all ≡ flat_map numbers rs ++ rest =
           ap (λ (k : ℕ). drop k all) further ∙ sym (drop-drop row_width (n * row_width) all) ∙ ap (drop row_width) e in
           let place : (row_of all n).place ≡ r.place = ap (λ (l : List ℕ). (taken l).place) e in
-          let its : tagged_at s (row_of all n).place ≡ Is r.content.header r.place = ap (tagged_at s) place ∙ there r (stand r (Memᴰ.head refl)) in
+          let its : tagged_at s (row_of all n).place ≡ item_is r.content.header r.place = ap (tagged_at s) place ∙ there r (stand r (Memᴰ.head refl)) in
           later (last_from kind of-group tag key (suc n) (map (λ (q : Record). taken (numbers q)) rs)) _
           ∙ (λ i. later_item (from rest (suc n) rs behind (λ q m. stand q (Memᴰ.tail m)) i) (here its (asked kind of-group tag key r) i))
         where
-          here : tagged_at s (row_of all n).place ≡ Is r.content.header r.place → (b : Bool)
-              → item (cond b (row.At n) row.Nothing) ≡ cond b (Is r.content.header r.place) Nothing
+          here : tagged_at s (row_of all n).place ≡ item_is r.content.header r.place → (b : Bool)
+              → item (cond b (Some n) None) ≡ cond b (item_is r.content.header r.place) (Ok None)
           here its true = its
           here its false = refl
 

@@ -14,8 +14,8 @@ use Rattle.klv.specs.OneText.{one_text}
 use Rattle.elements.specs.Types.{width_of}
 use Rattle.texts.specs.Kept.{kept}
 use Rattle.texts.specs.Texts.{are_well_formed}
-use Rattle.dates.specs.declared.Date.{Date}
-use Rattle.dates.specs.declared.Date.TheVariants.{Milliseconds, TooFew, Unreadable}
+use Rattle.std.specs.Prelude.{Result, Ok, Err}
+use Rattle.foundation.specs.declared.refusal.Fault.{Fault}
 use Rattle.dates.specs.Date.{date_of}
 use Rattle.custom_type.specs.Expansion.{expanded}
 use Rattle.value.specs.declared.Kind.{Kind}
@@ -65,10 +65,9 @@ module _ (h : KLV) (payload : List ℕ) where
   of_grid : (g : Grid) → Of (is_text g.kind) (gridded g payload)
   of_grid g = of_if (is_text g.kind) _ 6 refl (leb (g.rows * g.columns * width_of g.letter) (length payload))
 
-  of_date_lem : (d : Date) → Of false (dated d)
-  of_date_lem (Milliseconds n) = refl
-  of_date_lem TooFew = tt
-  of_date_lem Unreadable = tt
+  of_date_lem : (d : Result ℕ Fault) → Of false (dated d)
+  of_date_lem (Ok n) = refl
+  of_date_lem (Err f) = tt
 
   of_structure : (type : List ℕ) → Of false (structures type h payload)
   of_structure [] = of_grid unknown

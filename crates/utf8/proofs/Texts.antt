@@ -1,13 +1,13 @@
 -- The texts of a value: the one equation by fuel, the text of each row, and that all are well formed where the value is. Assumes nothing.
-use Prim.Native.Nat.{ℕ, zero, suc, ◌+◌, ◌-◌, ◌*◌, min, ◌<◌, ◌≤◌}
+use Prim.Native.Nat.{ℕ, zero, suc, ◌+◌, ◌*◌, min, ◌<◌, ◌≤◌}
 use mathlib.Core.Path.{◌≡◌, refl, sym, ap, ◌∙◌}
-use mathlib.Core.Bool.{Bool, true, false, ◌&&◌}
-use mathlib.Core.List.{List, [], ◌∷◌}
+use mathlib.Core.Bool.{Bool, true, false, ◌&&◌, and-true}
+use mathlib.Core.List.{List, [], ◌∷◌, ◌++◌}
 use native.Mathlib.Nat.{not-suc-le-zero, suc-mul, zero-mul}
 use native.Mathlib.Decide.{dec_le}
 use native.Mathlib.Omega.{arith}
 use lib.ListN.{length, take, drop, get_or, length-drop, drop_of_length-le}
-use lib.Seq.{drop-drop, drop-nil, take-nil}
+use lib.Seq.{drop-drop, drop-nil, take-nil, take-length, take_at, drop_at}
 use Rattle.foundation.specs.Fuel.{Falls, fix_eq}
 use Rattle.foundation.proofs.Parts.{take_min}
 use Rattle.texts.specs.Utf8.{well_formed}
@@ -43,22 +43,18 @@ module _ (size : ℕ) where
   chunks_next [] h = absurd (not-suc-le-zero h)
   chunks_next (b ∷ s) h = fix_eq length [] (step_chunks size) (falls size) (b ∷ s)
 
-  pub well_formed_none : are_well_formed size [] ≡ true
+  pub well_formed_none : (s : List ℕ) → length s ≡ 0 → are_well_formed size s ≡ true
   unfolding are_well_formed
-  well_formed_none = ap each chunks_none
+  well_formed_none [] h = ap each chunks_none
+  well_formed_none (b ∷ s) h = absurd (omega arith)
 
-  -- the texts from a place on: one more was looked at
-  pub well_formed_next : (s : List ℕ) (at n : ℕ) (x : Bool) → at < length s → n ≡ chunk_len size (length s - at) → x ≡ is_well_formed_text (take (at + n - at) (drop at s))
-      → are_well_formed size (drop at s) ≡ (x && are_well_formed size (drop (at + n) s))
-  unfolding are_well_formed
-  well_formed_next s at n x h e k =
-      let t = drop at s in
-      let some : 0 < length t = omega (arith, length-drop at s) in
-      let len : chunk_len size (length t) ≡ n = ap (chunk_len size) (length-drop at s) ∙ sym e in
-      let up : n ≡ at + n - at = omega arith in
-      let first : is_well_formed_text (take (chunk_len size (length t)) t) ≡ x = ap (λ (m : ℕ). is_well_formed_text (take m t)) (len ∙ up) ∙ sym k in
-      let rest : drop (chunk_len size (length t)) t ≡ drop (at + n) s = ap (λ (m : ℕ). drop m t) len ∙ drop-drop n at s in
-      ap each (chunks_next t some) ∙ (λ i. first i && each (chunks size (rest i)))
+-- with size 0 all is one text
+pub one_text : (s : List ℕ) → are_well_formed 0 s ≡ is_well_formed_text s
+unfolding are_well_formed well_formed
+one_text [] = well_formed_none 0 [] refl
+one_text (b ∷ s) =
+    ap each (chunks_next 0 (b ∷ s) (omega arith))
+    ∙ rw (take-length s, drop_of_length-le s {i = length s} (omega arith), chunks_none 0) (and-true (is_well_formed_text (b ∷ s)))
 
 and_true : (x y : Bool) → (x && y) ≡ true → (x ≡ true) × (y ≡ true)
 and_true true y h = (refl, h)
@@ -83,6 +79,16 @@ module _ (size : ℕ) (some : 0 < size) where
   -- the first text, and those behind it
   chunks_sized : (s : List ℕ) → 0 < length s → chunks size s ≡ take size s ∷ chunks size (drop size s)
   chunks_sized s h = chunks_next size s h ∙ ap (λ (n : ℕ). take n s ∷ chunks size (drop n s)) (sized (length s)) ∙ (λ i. take_min size s i ∷ chunks size (drop_min size s i))
+
+  -- a text, and those behind it
+  pub next_text : (s t u : List ℕ) (x : Bool) → s ≡ t ++ u → length t ≡ min size (length s) → 0 < length s → x ≡ is_well_formed_text t
+      → are_well_formed size s ≡ (x && are_well_formed size u)
+  unfolding are_well_formed
+  next_text s t u x e n h k =
+      let len : length t ≡ chunk_len size (length s) = n ∙ sym (sized (length s)) in
+      let first : take (chunk_len size (length s)) s ≡ t = ap (take (chunk_len size (length s))) e ∙ take_at t u _ len in
+      let rest : drop (chunk_len size (length s)) s ≡ u = ap (drop (chunk_len size (length s))) e ∙ drop_at t u _ len in
+      ap each (chunks_next size s h) ∙ rw (first, rest, k)
 
   none_at : (r : ℕ) → get_or (chunks size []) r [] ≡ take size (drop (r * size) [])
   none_at r = ap (λ (ts : List (List ℕ)). get_or ts r []) (chunks_none size) ∙ sym (ap (take size) (drop-nil (r * size)) ∙ take-nil size)

@@ -2,12 +2,12 @@
 
 #![tactic(auto)]
 
-ghost use Rattle.std.specs.Prelude.{◌≡◌, ◌<◌};
+ghost use Rattle.std.specs.Prelude.{◌≡◌};
 ghost use Rattle.texts.specs.Utf8.{table, begin, next, paid, well_formed};
-ghost use Rattle.texts.specs.Texts.{Chunk, is_well_formed_text, are_well_formed};
+ghost use Rattle.texts.specs.Texts.{is_well_formed_text, are_well_formed};
 ghost use Rattle.utf8.specs.Expected.{owed, owed_behind, ascii};
 
-// What the next byte of a text has to be.
+// What the next byte of a text has to be. Three states, of which none is the lack of a byte, so no Option is plainer.
 #[derive(Clone, Copy)]
 enum Expected {
     // the first of a sequence
@@ -53,16 +53,8 @@ fn after(expected: Expected, b: u8) -> Expected
 {
     match expected {
         Expected::First => after_first(b),
-        Expected::Byte(low, high, behind) => {
-            if b < low {
-                return Expected::Nothing;
-            }
-            if high < b {
-                return Expected::Nothing;
-            }
-            after_byte(behind)
-        }
-        Expected::Nothing => Expected::Nothing,
+        Expected::Byte(low, high, behind) if low <= b && b <= high => after_byte(behind),
+        _ => Expected::Nothing,
     }
 }
 
@@ -70,11 +62,7 @@ fn after(expected: Expected, b: u8) -> Expected
 fn may_end(expected: Expected) -> bool
     ensures { result ≡ paid (owed expected) }
 {
-    match expected {
-        Expected::First => true,
-        Expected::Byte(_, _, _) => false,
-        Expected::Nothing => false,
-    }
+    matches!(expected, Expected::First)
 }
 
 // Every byte a sequence by itself: one pass with no branch in it.
@@ -82,10 +70,8 @@ fn is_ascii(text: &[u8]) -> bool
     ensures { result ≡ ascii text.now }
 {
     let mut only = true;
-    let mut i: usize = 0;
-    while i < text.len() {
-        only = only & (text[i] < 0x80);
-        i += 1;
+    for b in text {
+        only &= *b < 0x80;
     }
     only
 }
@@ -98,23 +84,10 @@ pub fn is_utf8(text: &[u8]) -> bool
         return true;
     }
     let mut expected = Expected::First;
-    let mut i: usize = 0;
-    while i < text.len() {
-        expected = after(expected, text[i]);
-        i += 1;
+    for b in text {
+        expected = after(expected, *b);
     }
     may_end(expected)
-}
-
-// The length of the next text, where so many bytes are left: size, or what is left; with size 0 all.
-fn chunk_len(size: usize, left: usize) -> usize
-    requires { 0 < left }
-    ensures { Chunk size left result }
-{
-    if size == 0 {
-        return left;
-    }
-    if size < left { size } else { left }
 }
 
 // One text, cut at its first zero.
@@ -125,17 +98,17 @@ fn is_utf8_text(text: &[u8]) -> bool
     is_utf8(&text[..end])
 }
 
-// Each of the texts, size bytes long, is well-formed UTF-8 up to its first zero.
+// Each of the texts, size bytes long, is well-formed UTF-8 up to its first zero. With size 0 all is one text.
 pub fn are_utf8(texts: &[u8], size: usize) -> bool
     ensures { result ≡ are_well_formed size texts.now }
 {
-    let mut at: usize = 0;
-    while at < texts.len() {
-        let end = at + chunk_len(size, texts.len() - at);
-        if !is_utf8_text(&texts[at..end]) {
+    if size == 0 {
+        return is_utf8_text(texts);
+    }
+    for text in texts.chunks(size) {
+        if !is_utf8_text(text) {
             return false;
         }
-        at = end;
     }
     true
 }

@@ -1,6 +1,6 @@
 -- What an item's payload holds: rows of elements, by the letter of its type (document 01, Values; GPMF description, Types).
 -- A value is settled by its header, its payload's bytes and its TYPE text, and by nothing else. Assumes nothing: these are definitions.
-use Rattle.std.specs.Prelude.{ℕ, ◌+◌, ◌*◌, ◌/◌, Bool, cond, not, ◌&&◌, ◌||◌, List, [], ◌∷◌, eqb, leb, length, take, drop, get_or}
+use Rattle.std.specs.Prelude.{ℕ, ◌+◌, ◌*◌, ◌/◌, Bool, cond, not, ◌&&◌, ◌||◌, List, [], ◌∷◌, eqb, leb, length, take, drop, get_or, Result, Ok, Err}
 use Prim.Native.Char.{code}
 use Rattle.foundation.specs.Text.{key}
 use Rattle.foundation.specs.Refusals as refusals
@@ -12,11 +12,10 @@ use Rattle.elements.specs.Types.{width_of}
 use Rattle.elements.specs.Element.{element_at}
 use Rattle.texts.specs.Kept.{kept, up_to_zero}
 use Rattle.texts.specs.Texts.{are_well_formed}
-use Rattle.dates.specs.declared.Date.{Date}
-use Rattle.dates.specs.declared.Date.TheVariants.{Milliseconds, TooFew, Unreadable}
 use Rattle.dates.specs.Date.{date_of}
 use Rattle.dates.specs.Date as Date
-use Rattle.custom_type.specs.declared.Expanded.TheVariants.{TooLong}
+use Rattle.foundation.specs.declared.refusal.Fault.{Fault}
+use Rattle.foundation.specs.declared.refusal.Fault.TheVariants.{LongType}
 use Rattle.custom_type.specs.Expansion.{expanded}
 use Rattle.custom_type.specs.Resolved as Resolved
 use Rattle.value.specs.declared.Kind.{Kind}
@@ -114,10 +113,9 @@ texts h payload = cond (are_well_formed h.size payload) (readable (text_rows h p
 -- ---- a date: milliseconds since 1970
 
 -- of a date as it was read: one element
-abbrev pub dated : Date → ValueOutcome
-dated (Milliseconds n) = readable (record { kind = kind.DateTime; rows = 1; columns = λ row. 1; element = λ row column. Unsigned n })
-dated TooFew = refused (Date.refusal TooFew)
-dated Unreadable = refused (Date.refusal Unreadable)
+abbrev pub dated : Result ℕ Fault → ValueOutcome
+dated (Ok n) = readable (record { kind = kind.DateTime; rows = 1; columns = λ row. 1; element = λ row column. Unsigned n })
+dated (Err f) = refused (Date.refusal (Err f))
 
 -- ---- structures, whose columns have letters of their own
 
@@ -148,7 +146,7 @@ structured letters h payload = wanting (h.repeat * widths_of letters) payload (s
 -- the TYPE text is written out, to 256 characters at most (refusal 8, of `resolve_custom_type`); no TYPE, or an empty one: unknown
 abbrev pub structures : List ℕ → KLV → List ℕ → ValueOutcome
 structures [] h payload = gridded unknown payload
-structures (c ∷ type) h payload = cond (Resolved.fits (expanded (c ∷ type))) (structured (column_letters (expanded (c ∷ type))) h payload) (refused (Resolved.refusal TooLong))
+structures (c ∷ type) h payload = cond (Resolved.fits (expanded (c ∷ type))) (structured (column_letters (expanded (c ∷ type))) h payload) (refused (Resolved.refusal (Err LongType)))
 
 -- ---- THE VALUE
 

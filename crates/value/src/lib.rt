@@ -2,54 +2,33 @@
 
 #![tactic(auto)]
 
-use elements::Element;
-
-// What a value is called.
-#[derive(Clone, Copy)]
+// What a value is called, each with the number that other languages know it by.
+#[derive(Clone, Copy, PartialEq, Eq, Debug)]
 pub enum Kind {
-    Single,
-    List,
-    Vector,
-    TimedVector,
-    Nested,
-    Text,
-    Texts,
-    Identifier,
-    DateTime,
-    Quaternions,
-    Structures,
-    Unknown,
+    Single = 0,
+    List = 1,
+    Vector = 2,
+    TimedVector = 3,
+    Nested = 4,
+    Text = 5,
+    Texts = 6,
+    Identifier = 7,
+    DateTime = 8,
+    Quaternions = 9,
+    Structures = 10,
+    Unknown = 11,
 }
 
 // Rows, and columns in the first of them: each row has as many, but for those of several texts (`Texts`).
-#[derive(Clone, Copy)]
+#[derive(Clone, Copy, PartialEq, Eq, Debug)]
 pub struct Shape {
     pub kind: Kind,
     pub rows: usize,
     pub columns: usize,
 }
 
-#[derive(Clone, Copy)]
-pub enum Shaped {
-    Is(Shape),
-    Refused { number: u32, place: usize },
-}
-
-// How many there are: the columns of a row, or all elements.
-#[derive(Clone, Copy)]
-pub enum Count {
-    Are(usize),
-    Refused { number: u32, place: usize },
-}
-
-#[derive(Clone, Copy)]
-pub enum Read {
-    Is(Element),
-    Refused { number: u32, place: usize },
-}
-
 // Rows of elements that are all of one letter.
-#[derive(Clone, Copy)]
+#[derive(Clone, Copy, PartialEq, Eq, Debug)]
 pub struct Grid {
     pub kind: Kind,
     pub rows: usize,
@@ -58,7 +37,7 @@ pub struct Grid {
 }
 
 // What is to be read of an item, by the letter of its type.
-#[derive(Clone, Copy)]
+#[derive(Clone, Copy, PartialEq, Eq, Debug)]
 pub enum Plan {
     // rows of elements of one letter
     Even(Grid),

@@ -1,16 +1,12 @@
 -- What an element, a shape and an average are told as to a caller in another language: a record of numbers, of which those that the answer does not
 -- have are 0 (document 01, Refusal numbers: "A refusal returns its number, a place and zeros"). Assumes nothing: these are definitions.
-use Rattle.std.specs.Prelude.{ℕ, ℤ, pos, Float}
+use Rattle.std.specs.Prelude.{ℕ, ℤ, pos, Float, Option, Some, None, Result, Ok, Err}
+use Rattle.foundation.specs.declared.refusal.Refusal.{Refusal}
 use Rattle.elements.specs.declared.Element.{Element}
 use Rattle.elements.specs.declared.Element.TheVariants as element
-use Rattle.durations.specs.declared.Average.{Average}
-use Rattle.durations.specs.declared.Average.TheVariants as average
 use Rattle.value.specs.declared.Kind.{Kind}
 use Rattle.value.specs.declared.Kind.TheVariants as kind
-use Rattle.value.specs.declared.Shaped.{Shaped}
-use Rattle.value.specs.declared.Shaped.TheVariants as shaped
-use Rattle.value.specs.declared.Read.{Read}
-use Rattle.value.specs.declared.Read.TheVariants as read_as
+use Rattle.value.specs.declared.Shape.{Shape}
 use Rattle.answer_kinds.specs.Kinds.{refused, is, nothing, nought}
 use Rattle.value_answers.specs.declared.RealAnswer.{RealAnswer}
 use Rattle.value_answers.specs.declared.Number.{Number}
@@ -24,10 +20,10 @@ abbrev pub real : ℕ → ℕ → ℕ → Float → RealAnswer
 real kind number place value = record { kind = kind; number = number; place = place; value = value }
 
 -- the average duration of a reading
-abbrev pub of_average : Average → RealAnswer
-of_average (average.Is x) = real is 0 0 x
-of_average average.Nothing = real nothing 0 0 nought
-of_average (average.Refused number place) = real refused number place nought
+abbrev pub of_average : Result (Option Float) Refusal → RealAnswer
+of_average (Ok (Some x)) = real is 0 0 x
+of_average (Ok None) = real nothing 0 0 nought
+of_average (Err r) = real refused r.number r.place nought
 
 -- ---- an element: its form, 0 to 3, and the number in the field of that form
 
@@ -47,9 +43,9 @@ abbrev pub read : ℕ → ℕ → ℕ → Number → ElementAnswer
 read kind number place e = record { kind = kind; number = number; place = place; element = e }
 
 -- the element that was read
-abbrev pub of_read : Read → ElementAnswer
-of_read (read_as.Is e) = read is 0 0 (of_element e)
-of_read (read_as.Refused number place) = read refused number place (of_element (element.Signed (pos 0)))
+abbrev pub of_read : Result Element Refusal → ElementAnswer
+of_read (Ok e) = read is 0 0 (of_element e)
+of_read (Err r) = read refused r.number r.place (of_element (element.Signed (pos 0)))
 
 -- ---- a shape
 
@@ -73,6 +69,6 @@ abbrev pub shape : ℕ → ℕ → ℕ → ℕ → ℕ → ℕ → ShapeAnswer
 shape kind number place called rows columns = record { kind = kind; number = number; place = place; value_kind = called; rows = rows; columns = columns }
 
 -- the shape of a value
-abbrev pub of_shaped : Shaped → ShapeAnswer
-of_shaped (shaped.Is s) = shape is 0 0 (of_kind s.kind) s.rows s.columns
-of_shaped (shaped.Refused number place) = shape refused number place 0 0 0
+abbrev pub of_shaped : Result Shape Refusal → ShapeAnswer
+of_shaped (Ok s) = shape is 0 0 (of_kind s.kind) s.rows s.columns
+of_shaped (Err r) = shape refused r.number r.place 0 0 0

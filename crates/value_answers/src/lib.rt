@@ -6,9 +6,9 @@ ghost use Rattle.std.specs.Prelude.{◌≡◌};
 ghost use Rattle.value_answers.specs.Answers as tells;
 
 use answer_kinds::{IS, NOTHING, REFUSED};
-use durations::Average;
 use elements::Element;
-use value::{Kind, Read, Shaped};
+use foundation::refusal::Refusal;
+use value::{Kind, Shape};
 
 // A number in f64.
 #[repr(C)]
@@ -20,9 +20,14 @@ pub struct RealAnswer {
     pub value: f64,
 }
 
-fn real(kind: u32, number: u32, place: usize, value: f64) -> RealAnswer
-    ensures { result ≡ tells.real kind number place value }
+pub fn of_average(x: Result<Option<f64>, Refusal>) -> RealAnswer
+    ensures { result ≡ tells.of_average x }
 {
+    let (kind, number, place, value) = match x {
+        Ok(Some(y)) => (IS, 0, 0, y),
+        Ok(None) => (NOTHING, 0, 0, 0.0),
+        Err(refusal) => (REFUSED, refusal.number, refusal.place, 0.0),
+    };
     RealAnswer {
         kind,
         number,
@@ -31,17 +36,7 @@ fn real(kind: u32, number: u32, place: usize, value: f64) -> RealAnswer
     }
 }
 
-pub fn of_average(x: Average) -> RealAnswer
-    ensures { result ≡ tells.of_average x }
-{
-    match x {
-        Average::Is(y) => real(IS, 0, 0, y),
-        Average::Nothing => real(NOTHING, 0, 0, 0.0),
-        Average::Refused { number, place } => real(REFUSED, number, place, 0.0),
-    }
-}
-
-// The forms of a number.
+// The forms of a number, told as numbers: the C interface.
 pub const SIGNED: u32 = 0;
 
 pub const UNSIGNED: u32 = 1;
@@ -94,28 +89,23 @@ pub struct ElementAnswer {
     pub element: Number,
 }
 
-fn read(kind: u32, number: u32, place: usize, element: Number) -> ElementAnswer
-    ensures { result ≡ tells.read kind number place element }
+pub fn of_read(x: Result<Element, Refusal>) -> ElementAnswer
+    ensures { result ≡ tells.of_read x }
 {
+    let (kind, number, place, element) = match x {
+        Ok(element) => (IS, 0, 0, of_element(element)),
+        Err(refusal) => (
+            REFUSED,
+            refusal.number,
+            refusal.place,
+            of_element(Element::Signed(0)),
+        ),
+    };
     ElementAnswer {
         kind,
         number,
         place,
         element,
-    }
-}
-
-pub fn of_read(x: Read) -> ElementAnswer
-    ensures { result ≡ tells.of_read x }
-{
-    match x {
-        Read::Is(element) => read(IS, 0, 0, of_element(element)),
-        Read::Refused { number, place } => read(
-            REFUSED,
-            number,
-            place,
-            of_element(Element::Signed(0)),
-        ),
     }
 }
 
@@ -131,16 +121,20 @@ pub struct ShapeAnswer {
     pub columns: usize,
 }
 
-fn shape(
-    kind: u32,
-    number: u32,
-    place: usize,
-    value_kind: u32,
-    rows: usize,
-    columns: usize,
-) -> ShapeAnswer
-    ensures { result ≡ tells.shape kind number place value_kind rows columns }
+// The number of what a value is called, from 0.
+pub fn of_kind(x: Kind) -> u32
+    ensures { result ≡ tells.of_kind x }
 {
+    x as u32
+}
+
+pub fn of_shaped(x: Result<Shape, Refusal>) -> ShapeAnswer
+    ensures { result ≡ tells.of_shaped x }
+{
+    let (kind, number, place, value_kind, rows, columns) = match x {
+        Ok(shape) => (IS, 0, 0, of_kind(shape.kind), shape.rows, shape.columns),
+        Err(refusal) => (REFUSED, refusal.number, refusal.place, 0, 0, 0),
+    };
     ShapeAnswer {
         kind,
         number,
@@ -148,37 +142,5 @@ fn shape(
         value_kind,
         rows,
         columns,
-    }
-}
-
-// The number of what a value is called, from 0.
-pub fn of_kind(x: Kind) -> u32
-    ensures { result ≡ tells.of_kind x }
-{
-    match x {
-        Kind::Single => 0,
-        Kind::List => 1,
-        Kind::Vector => 2,
-        Kind::TimedVector => 3,
-        Kind::Nested => 4,
-        Kind::Text => 5,
-        Kind::Texts => 6,
-        Kind::Identifier => 7,
-        Kind::DateTime => 8,
-        Kind::Quaternions => 9,
-        Kind::Structures => 10,
-        Kind::Unknown => 11,
-    }
-}
-
-pub fn of_shaped(x: Shaped) -> ShapeAnswer
-    ensures { result ≡ tells.of_shaped x }
-{
-    match x {
-        Shaped::Is(s) => {
-            let called = s.kind;
-            shape(IS, 0, 0, of_kind(called), s.rows, s.columns)
-        }
-        Shaped::Refused { number, place } => shape(REFUSED, number, place, 0, 0, 0),
     }
 }

@@ -1,8 +1,6 @@
 -- The next step by the cases that the code goes by. Assumes nothing.
-use Rattle.std.proofs.Common.{◌≡◌, ℕ, ◌+◌, ◌-◌, ◌<◌, ◌≤◌, max, Bool, true, false, cond, ltb, List, length, sym, ap, ◌∙◌, arith, le-ltb, lt-ltb}
+use Rattle.std.proofs.Common.{Option, Some, None, ◌≡◌, ℕ, ◌+◌, ◌-◌, ◌<◌, ◌≤◌, max, Bool, true, false, cond, ltb, List, length, sym, ap, ◌∙◌, arith, le-ltb, lt-ltb}
 use Rattle.search.specs.Search.{find_from}
-use Rattle.search.specs.declared.Found.{Found}
-use Rattle.search.specs.declared.Found.TheVariants.{At, Nothing}
 use Rattle.raw_file.specs.Window.{in_window_of}
 use Rattle.raw_file.specs.declared.Packet.{Packet}
 use Rattle.raw_file.specs.declared.InWindow.{InWindow}
@@ -15,7 +13,7 @@ use Rattle.window.specs.Steps.{most_held, last_bytes, over_held, in_file, start_
 wrapped : (base devc : ℕ) → in_file (in_file base devc) 8 ≡ start_at base devc
 wrapped base devc = omega arith
 
-pub overlaps : (base : ℕ) (found : Found) (at x y : ℕ) → found ≡ At at → x ≡ in_file base at → y ≡ in_file x 8 → y ≡ overlapping base found
+pub overlaps : (base : ℕ) (found : Option ℕ) (at x y : ℕ) → found ≡ Some at → x ≡ in_file base at → y ≡ in_file x 8 → y ≡ overlapping base found
 overlaps base found at x y is e f = f ∙ ap (λ k. in_file k 8) e ∙ wrapped base at ∙ sym (ap (overlapping base) is)
 
 module _ (p : Places) where
@@ -46,7 +44,7 @@ module _ (p : Places) where
           → answer ≡ cond (ltb (from + over_held) (length bytes)) (read_past bytes p from) (read_from p from)
       reads_on_lem h e = rw (le-ltb (from + over_held) (length bytes) h) e
 
-      pub seeks_both : (middle first second : ℕ) (found : Found) → middle ≡ in_file p.base from → first ≡ in_file middle 8 → found ≡ find_from bytes (from + 1)
+      pub seeks_both : (middle first second : ℕ) (found : Option ℕ) → middle ≡ in_file p.base from → first ≡ in_file middle 8 → found ≡ find_from bytes (from + 1)
           → second ≡ overlapping p.base found → answer ≡ read_from (record { base = p.base; at = p.at; first = first; second = second }) (length bytes - last_bytes)
           → answer ≡ read_past bytes p from
       seeks_both middle first second found m f is s e =
@@ -54,20 +52,20 @@ module _ (p : Places) where
 
     module _ (more : Bool) (answer : Step) where
       -- an end is sought
-      pub seeks : (found : Found) → found ≡ find_from bytes p.at → (known : Found) → found ≡ known → answer ≡ seek_end bytes more p known
+      pub seeks : (found : Option ℕ) → found ≡ find_from bytes p.at → (known : Option ℕ) → found ≡ known → answer ≡ seek_end bytes more p known
           → answer ≡ seek_end bytes more p (find_from bytes p.at)
       seeks found is known k e = e ∙ ap (seek_end bytes more p) (sym k ∙ is)
 
       -- in what is read next
-      pub seeks_on : (found : Found) (from : ℕ) → found ≡ find_from bytes p.at → found ≡ Nothing → more ≡ true → from ≡ max p.at (length bytes - last_bytes)
+      pub seeks_on : (found : Option ℕ) (from : ℕ) → found ≡ find_from bytes p.at → found ≡ None → more ≡ true → from ≡ max p.at (length bytes - last_bytes)
           → answer ≡ read_from p from → answer ≡ seek_end bytes more p (find_from bytes p.at)
       seeks_on found from is k m f e =
-          e ∙ ap (read_from p) f ∙ ap (λ (b : Bool). seek_end bytes b p Nothing) (sym m) ∙ ap (seek_end bytes more p) (sym k ∙ is)
+          e ∙ ap (read_from p) f ∙ ap (λ (b : Bool). seek_end bytes b p None) (sym m) ∙ ap (seek_end bytes more p) (sym k ∙ is)
 
       -- the end of the file
-      pub seeks_last : (found : Found) → found ≡ find_from bytes p.at → found ≡ Nothing → more ≡ false → answer ≡ tell_long p (length bytes)
+      pub seeks_last : (found : Option ℕ) → found ≡ find_from bytes p.at → found ≡ None → more ≡ false → answer ≡ tell_long p (length bytes)
           → answer ≡ seek_end bytes more p (find_from bytes p.at)
-      seeks_last found is k m e = e ∙ ap (λ (b : Bool). seek_end bytes b p Nothing) (sym m) ∙ ap (seek_end bytes more p) (sym k ∙ is)
+      seeks_last found is k m e = e ∙ ap (λ (b : Bool). seek_end bytes b p None) (sym m) ∙ ap (seek_end bytes more p) (sym k ∙ is)
 
       pub next_sought : 0 < p.first → answer ≡ seek_end bytes more p (find_from bytes p.at) → answer ≡ next_step bytes more p
       unfolding next_step

@@ -1,4 +1,5 @@
 -- A step while no end is sought: a packet is told, or more is read, and nothing that is left to be told is lost. Assumes nothing.
+use Rattle.raw_file.specs.Packets.{going}
 use Rattle.std.proofs.Common.{◌≡◌, ℕ, ◌+◌, ◌-◌, ◌^◌, ◌<◌, ◌≤◌, Bool, true, false, cond, ltb, List, [], ◌∷◌, map, length, sym, refl, ap, ◌∙◌, arith, ltb-false, ltb-true}
 use Rattle.raw_file.specs.declared.Packet.{Packet}
 use Rattle.raw_file.specs.declared.Packets.{Packets}
@@ -6,7 +7,7 @@ use Rattle.raw_file.specs.declared.InWindow.{InWindow}
 use Rattle.raw_file.specs.declared.InWindow.TheVariants as in_window
 use Rattle.raw_file.specs.Packets.{packets_from}
 use Rattle.raw_file.specs.Window.{in_window_of}
-use Rattle.raw_file.proofs.Next.{handed_out_lem}
+use Rattle.raw_file.proofs.NextPacket.{handed_out_lem}
 use Rattle.raw_file.proofs.Window.{known_is}
 use Rattle.raw_file.proofs.Moved.{packet_on}
 use Rattle.raw_file.proofs.Stream.{told_and_left, not_more, more_within}
@@ -20,7 +21,7 @@ use Rattle.window.proofs.Past.{past_keeps}
 
 module _ (file : List ℕ) (small : length file < 2 ^ 64) {window toCome : List ℕ} {p : Places} (stands : Stands file window toCome p) (none-sought : p.first ≤ 0) where
   -- A PACKET IS TOLD
-  packet_keeps : (more : Bool) → (more ≡ false → toCome ≡ []) → (packet : Packet) (rest : Packets) → in_window_of window more p.at ≡ in_window.Next packet rest
+  packet_keeps : (more : Bool) → (more ≡ false → toCome ≡ []) → (packet : Packet) (rest : Packets) → in_window_of window more p.at ≡ in_window.Next (going packet rest)
       → KeepsLeft file window toCome p (tell_packet p packet rest.at)
   packet_keeps more none packet rest is = by_length (ltb most_held (packet.end - packet.start)) refl
     where
@@ -73,6 +74,6 @@ module _ (file : List ℕ) (small : length file < 2 ^ 64) {window toCome : List 
       wanted more none from is false t = read_keeps more none from is
 
       split : (more : Bool) → (more ≡ false → toCome ≡ []) → (x : InWindow) → in_window_of window more p.at ≡ x → KeepsLeft file window toCome p (tell_next window p x)
-      split more none (in_window.Next packet rest) is = packet_keeps more none packet rest is
+      split more none (in_window.Next next) is = packet_keeps more none next.packet next.rest is
       split more none (in_window.More from) is = wanted more none from is (ltb (from + over_held) (length window)) refl
       split more none in_window.End is = left_packets file p none-sought ∙ told_in_lem file stands more none ∙ ap (told_and_left file p.base) is

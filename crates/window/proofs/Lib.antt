@@ -1,5 +1,4 @@
 pub mod Answers
-pub mod Keeping
 pub mod Held
 pub mod Standing
 pub mod Tells

@@ -1,9 +1,7 @@
 -- A step that reads on: there is one only where more is to come, and of the window no more bytes are kept than say that a packet is over what is
 -- held, so that a buffer of so many and of one read has room. Assumes nothing.
-use Rattle.std.proofs.Common.{◌≡◌, ℕ, ◌+◌, ◌-◌, ◌≤◌, max, Bool, true, false, cond, ltb, List, length, refl, arith, ltb-false}
+use Rattle.std.proofs.Common.{Option, Some, None, ◌≡◌, ℕ, ◌+◌, ◌-◌, ◌≤◌, max, Bool, true, false, cond, ltb, List, length, refl, arith, ltb-false}
 use Rattle.search.specs.Search.{find_from}
-use Rattle.search.specs.declared.Found.{Found}
-use Rattle.search.specs.declared.Found.TheVariants.{At, Nothing}
 use Rattle.raw_file.specs.declared.Packet.{Packet}
 use Rattle.raw_file.specs.declared.InWindow.{InWindow}
 use Rattle.raw_file.specs.declared.InWindow.TheVariants as in_window
@@ -27,10 +25,10 @@ module _ (window : List ℕ) (p : Places) (from : ℕ) (rest : Places) where
   unfolding next_step
   no_read_at_the_end e = split (ltb 0 p.first) (find_from window p.at) (in_window_of window false p.at) refl e
     where
-      split : (b : Bool) (f : Found) (x : InWindow) → in_window_of window false p.at ≡ x → cond b (seek_end window false p f) (tell_next window p x) ≡ Read from rest → ⊥
-      split true (At end) x i e = let z : ◌≡◌ {A = ℕ} 0 1 = cc in omega arith
-      split true Nothing x i e = let z : ◌≡◌ {A = ℕ} 0 1 = cc in omega arith
-      split false f (in_window.Next packet on) i e = not_told packet on.at e
+      split : (b : Bool) (f : Option ℕ) (x : InWindow) → in_window_of window false p.at ≡ x → cond b (seek_end window false p f) (tell_next window p x) ≡ Read from rest → ⊥
+      split true (Some end) x i e = let z : ◌≡◌ {A = ℕ} 0 1 = cc in omega arith
+      split true None x i e = let z : ◌≡◌ {A = ℕ} 0 1 = cc in omega arith
+      split false f (in_window.Next next) i e = not_told next.packet next.rest.at e
       split false f (in_window.More at) i e = not_more window p.at at i
       split false f in_window.End i e = let z : ◌≡◌ {A = ℕ} 0 1 = cc in omega arith
 
@@ -43,10 +41,10 @@ module _ (window : List ℕ) (p : Places) (from : ℕ) (rest : Places) where
       wanted at true t e = let q : length window - last_bytes ≡ from = cc in omega arith
       wanted at false t e = let q : at ≡ from = cc in omega (arith, ltb-false (at + over_held) (length window) t)
 
-      split : (more b : Bool) (f : Found) (x : InWindow) → cond b (seek_end window more p f) (tell_next window p x) ≡ Read from rest → length window ≤ from + over_held
-      split more true (At end) x e = let z : ◌≡◌ {A = ℕ} 0 1 = cc in absurd (omega arith)
-      split true true Nothing x e = let q : max p.at (length window - last_bytes) ≡ from = cc in omega arith
-      split false true Nothing x e = let z : ◌≡◌ {A = ℕ} 0 1 = cc in absurd (omega arith)
-      split more false f (in_window.Next packet on) e = absurd (not_told packet on.at e)
+      split : (more b : Bool) (f : Option ℕ) (x : InWindow) → cond b (seek_end window more p f) (tell_next window p x) ≡ Read from rest → length window ≤ from + over_held
+      split more true (Some end) x e = let z : ◌≡◌ {A = ℕ} 0 1 = cc in absurd (omega arith)
+      split true true None x e = let q : max p.at (length window - last_bytes) ≡ from = cc in omega arith
+      split false true None x e = let z : ◌≡◌ {A = ℕ} 0 1 = cc in absurd (omega arith)
+      split more false f (in_window.Next next) e = absurd (not_told next.packet next.rest.at e)
       split more false f (in_window.More at) e = wanted at (ltb (at + over_held) (length window)) refl e
       split more false f in_window.End e = let z : ◌≡◌ {A = ℕ} 0 1 = cc in absurd (omega arith)

@@ -1,12 +1,10 @@
 -- A step while the end of packets over what is held is sought: nothing that is left to be told is lost. Assumes nothing.
-use Rattle.std.proofs.Common.{◌≡◌, ℕ, ◌+◌, ◌-◌, ◌^◌, ◌<◌, ◌≤◌, max, Bool, true, false, ltb, List, [], ◌∷◌, ◌++◌, map, length, sym, refl, ap, ◌∙◌, append-nil, arith, ltb-false, ltb-true}
+use Rattle.std.proofs.Common.{Option, Some, None, ◌≡◌, ℕ, ◌+◌, ◌-◌, ◌^◌, ◌<◌, ◌≤◌, max, Bool, true, false, ltb, List, [], ◌∷◌, ◌++◌, map, length, sym, refl, ap, ◌∙◌, append-nil, arith, ltb-false, ltb-true}
 use Rattle.search.specs.Search.{find_from, or_end, devc_or_end}
-use Rattle.search.specs.declared.Found.{Found}
-use Rattle.search.specs.declared.Found.TheVariants.{At, Nothing}
 use Rattle.search.proofs.First.{found}
 use Rattle.raw_file.specs.declared.Packet.{Packet}
 use Rattle.raw_file.specs.Packets.{packets_from}
-use Rattle.raw_file.proofs.Next.{devc_or_end_lem, same_end}
+use Rattle.raw_file.proofs.NextPacket.{devc_or_end_lem, same_end}
 use Rattle.raw_file.proofs.Window.{stays, goes_on_late}
 use Rattle.window.specs.declared.Places.{Places}
 use Rattle.window.specs.Steps.{most_held, last_bytes, in_file, tell_long, read_from, seek_end}
@@ -61,7 +59,7 @@ module _ (file : List ℕ) (small : length file < 2 ^ 64) {window toCome : List 
       )
 
   -- IT IS SOUGHT in what is read next
-  seeks_on : (from : ℕ) → find_from window p.at ≡ Nothing → from ≡ max p.at (length window - last_bytes) → KeepsLeft file window toCome p (read_from p from)
+  seeks_on : (from : ℕ) → find_from window p.at ≡ None → from ≡ max p.at (length window - last_bytes) → KeepsLeft file window toCome p (read_from p from)
   seeks_on from none e =
       let low : p.at ≤ from = omega arith in
       let high : from ≤ length window = omega (arith, stands.within) in
@@ -69,7 +67,7 @@ module _ (file : List ℕ) (small : length file < 2 ^ 64) {window toCome : List 
       let place : from + p.base ≡ 0 + in_file p.base from = omega (arith, in_file_lem file stands small from high) in
       let rest : Places = record { base = in_file p.base from; at = 0; first = p.first; second = p.second } in
       let ends : devc_or_end file (p.at + p.base) ≡ devc_or_end file (0 + in_file p.base from) =
-      ends_in file stands p.at ∙ ap (λ (f : Found). or_end f (length (window ++ toCome)) + p.base) late ∙ sym (ends_in file stands from) ∙ ap (devc_or_end file) place
+      ends_in file stands p.at ∙ ap (λ (f : Option ℕ). or_end f (length (window ++ toCome)) + p.base) late ∙ sym (ends_in file stands from) ∙ ap (devc_or_end file) place
       in (
         left_sought file p sought ∙ ap ending ends ∙ sym (left_sought file rest sought),
         stands_on file small stands p.first p.second from high (λ u. omega (arith, stands.far u)) (λ u. omega (arith, stands.far_second u)),
@@ -79,11 +77,11 @@ module _ (file : List ℕ) (small : length file < 2 ^ 64) {window toCome : List 
   pub sought_keeps : (more : Bool) → (more ≡ false → toCome ≡ []) → KeepsLeft file window toCome p (seek_end window more p (find_from window p.at))
   sought_keeps more none = split (find_from window p.at) refl more none
     where
-      split : (f : Found) → find_from window p.at ≡ f → (more : Bool) → (more ≡ false → toCome ≡ []) → KeepsLeft file window toCome p (seek_end window more p f)
-      split (At end) e more none =
+      split : (f : Option ℕ) → find_from window p.at ≡ f → (more : Bool) → (more ≡ false → toCome ≡ []) → KeepsLeft file window toCome p (seek_end window more p f)
+      split (Some end) e more none =
           let f = found window p.at end e in
-          tells end (ap (λ (x : Found). or_end x (length (window ++ toCome))) (stays window toCome p.at end e)) f.behind (omega (arith, f.room))
-      split Nothing e true none = seeks_on (max p.at (length window - last_bytes)) e refl
-      split Nothing e false none =
+          tells end (ap (λ (x : Option ℕ). or_end x (length (window ++ toCome))) (stays window toCome p.at end e)) f.behind (omega (arith, f.room))
+      split None e true none = seeks_on (max p.at (length window - last_bytes)) e refl
+      split None e false none =
           let all : window ++ toCome ≡ window = ap (λ (l : List ℕ). window ++ l) (none refl) ∙ append-nil window in
-          tells (length window) (ap (λ (l : List ℕ). devc_or_end l p.at) all ∙ ap (λ (x : Found). or_end x (length window)) e) stands.within (omega arith)
+          tells (length window) (ap (λ (l : List ℕ). devc_or_end l p.at) all ∙ ap (λ (x : Option ℕ). or_end x (length window)) e) stands.within (omega arith)

@@ -1,9 +1,7 @@
 -- What is done next with a window of a raw file that is read piece by piece: a packet is told, or more is read. Document 01, Raw files: "Files have
 -- no length limit. Each `DEVC` with more than 4 bytes after it starts a packet". Assumes nothing: these are definitions.
-use Rattle.std.specs.Prelude.{◌≡◌, ℕ, ◌+◌, ◌-◌, ◌%◌, ◌^◌, max, Bool, true, false, cond, List, ◌++◌, length, take, drop, nat_lt}
+use Rattle.std.specs.Prelude.{Option, Some, None, ◌≡◌, ℕ, ◌+◌, ◌-◌, ◌%◌, ◌^◌, max, Bool, true, false, cond, List, ◌++◌, length, take, drop, nat_lt}
 use Rattle.search.specs.Search.{find_from}
-use Rattle.search.specs.declared.Found.{Found}
-use Rattle.search.specs.declared.Found.TheVariants.{At, Nothing}
 use Rattle.raw_file.specs.Window.{in_window_of}
 use Rattle.raw_file.specs.declared.Packet.{Packet}
 use Rattle.raw_file.specs.declared.InWindow.{InWindow}
@@ -48,9 +46,9 @@ tell_packet p packet rest =
     (Held packet (in_file p.base packet.start) (cut_from p rest))
 
 -- the start of a packet whose DEVC was found behind another; 0 where there is none
-abbrev pub overlapping : ℕ → Found → ℕ
-overlapping base (At at) = start_at base at
-overlapping base Nothing = 0
+abbrev pub overlapping : ℕ → Option ℕ → ℕ
+overlapping base (Some at) = start_at base at
+overlapping base None = 0
 
 -- a packet over what is held, whose DEVC stands at a place: its end is sought, and that of the one that overlaps it, from the last bytes on
 abbrev pub read_past : List ℕ → Places → ℕ → Step
@@ -59,7 +57,7 @@ read_past bytes p from =
 
 -- by what the window tells
 abbrev pub tell_next : List ℕ → Places → InWindow → Step
-tell_next bytes p (in_window.Next packet rest) = tell_packet p packet rest.at
+tell_next bytes p (in_window.Next next) = tell_packet p next.packet next.rest.at
 tell_next bytes p (in_window.More from) = cond (nat_lt (from + over_held) (length bytes)) (read_past bytes p from) (read_from p from)
 tell_next bytes p in_window.End = End
 
@@ -68,10 +66,10 @@ abbrev pub tell_long : Places → ℕ → Step
 tell_long p end = Long p.first (in_file p.base end - p.first) (record { base = p.base; at = end; first = p.second; second = 0 })
 
 -- an end is sought: "to the next `DEVC` searched from there, or the end"
-abbrev pub seek_end : List ℕ → Bool → Places → Found → Step
-seek_end bytes more p (At end) = tell_long p end
-seek_end bytes true p Nothing = read_from p (max p.at (length bytes - last_bytes))
-seek_end bytes false p Nothing = tell_long p (length bytes)
+abbrev pub seek_end : List ℕ → Bool → Places → Option ℕ → Step
+seek_end bytes more p (Some end) = tell_long p end
+seek_end bytes true p None = read_from p (max p.at (length bytes - last_bytes))
+seek_end bytes false p None = tell_long p (length bytes)
 
 -- THE NEXT STEP, by the window's bytes and whether the file goes on behind them
 unfoldable pub next_step : List ℕ → Bool → Places → Step

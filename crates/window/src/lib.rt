@@ -4,10 +4,9 @@
 
 ghost use Rattle.std.specs.Prelude.{◌≡◌, ◌+◌, ◌-◌, ◌<◌, min, max, length, if◌then◌else◌, nat_lt};
 ghost use Rattle.search.specs.Search.{find_from};
-ghost use Rattle.window.specs.Steps.{last_bytes, over_held, in_file, read_from, tell_packet, overlapping, read_past, tell_long, seek_end, next_step, Keeps};
+ghost use Rattle.window.specs.Steps.{over_held, in_file, read_from, tell_packet, overlapping, read_past, tell_long, seek_end, next_step, Keeps};
 
 use raw_file::{InWindow, Packet, Packets};
-use search::Found;
 
 // The most bytes that are held of a packet.
 pub const MOST_HELD: usize = 65536;
@@ -22,7 +21,7 @@ const OVER: usize = Packets::HEADER + MOST_HELD + LAST_BYTES + 7;
 // The place of the window's first byte in the file, where the cutting or the search goes on in the window, and where the packets start in
 // the file whose end is sought: 0 for none. At most two overlap.
 #[repr(C)]
-#[derive(Clone, Copy)]
+#[derive(Clone, Copy, PartialEq, Eq, Debug)]
 pub struct Places {
     pub base: u64,
     pub at: usize,
@@ -31,7 +30,7 @@ pub struct Places {
 }
 
 // What is done next, with the places afterwards.
-#[derive(Clone, Copy)]
+#[derive(Clone, Copy, PartialEq, Eq, Debug)]
 pub enum Step {
     // a packet is told, which the window holds: its places there, and its start in the file
     Held {
@@ -61,7 +60,7 @@ pub fn next_step(places: Places, window: &[u8], more: bool) -> Step
         return seek_end(places, window, more);
     }
     match Packets::new(places.at).next_in(window, more) {
-        InWindow::Next { packet, rest } => tell_packet(places, packet, rest.at),
+        InWindow::Next(next) => tell_packet(places, next.packet, next.rest.at),
         InWindow::More { from } => read_on(places, window, from),
         InWindow::End => Step::End,
     }
@@ -72,12 +71,12 @@ fn tell_packet(places: Places, packet: Packet, rest: usize) -> Step
     ensures { result ≡ tell_packet places packet rest }
 {
     let start = in_file(places.base, packet.start);
-    let bytes = between(packet.start as u64, packet.end as u64);
+    let bytes = packet.end.saturating_sub(packet.start) as u64;
     let rest = Places {
-        base: places.base,
         at: rest,
         first: 0,
         second: 0,
+        ..places
     };
     if bytes > MOST_HELD as u64 {
         return Step::Long { start, bytes, rest };
@@ -93,7 +92,7 @@ fn tell_packet(places: Places, packet: Packet, rest: usize) -> Step
 fn read_on(places: Places, window: &[u8], from: usize) -> Step
     ensures { result ≡ (if nat_lt (from + over_held) (length window.now) then read_past window.now places from else read_from places from) }
 {
-    if (from as u64) < between(OVER as u64, window.len() as u64) {
+    if from < window.len().saturating_sub(OVER) {
         return read_past(places, window, from);
     }
     read_from(places, from)
@@ -107,21 +106,20 @@ fn read_past(places: Places, window: &[u8], from: usize) -> Step
     let first = in_file(in_file(places.base, from), Packets::HEADER);
     let second = overlapping(places.base, search::find_devc(window, from + 1));
     let sought = Places {
-        base: places.base,
-        at: places.at,
         first,
         second,
+        ..places
     };
     read_from(sought, window.len() - LAST_BYTES)
 }
 
 // Where the packet starts whose DEVC was found behind another.
-fn overlapping(base: u64, found: Found) -> u64
+fn overlapping(base: u64, found: Option<usize>) -> u64
     ensures { result ≡ overlapping base found }
 {
     match found {
-        Found::At(at) => in_file(in_file(base, at), Packets::HEADER),
-        Found::Nothing => 0,
+        Some(at) => in_file(in_file(base, at), Packets::HEADER),
+        None => 0,
     }
 }
 
@@ -134,8 +132,7 @@ fn read_from(places: Places, from: usize) -> Step
         rest: Places {
             base: in_file(places.base, from),
             at: 0,
-            first: places.first,
-            second: places.second,
+            ..places
         },
     }
 }
@@ -145,10 +142,11 @@ fn seek_end(places: Places, window: &[u8], more: bool) -> Step
     ensures { result ≡ seek_end window.now more places (find_from window.now places.at) }
 {
     match search::find_devc(window, places.at) {
-        Found::At(end) => tell_long(places, end),
-        Found::Nothing => {
+        Some(end) => tell_long(places, end),
+        None => {
             if more {
-                return read_from(places, last_bytes(window.len(), places.at));
+                let from = places.at.max(window.len().saturating_sub(LAST_BYTES));
+                return read_from(places, from);
             }
             tell_long(places, window.len())
         }
@@ -160,7 +158,7 @@ fn tell_long(places: Places, end: usize) -> Step
     ensures { result ≡ tell_long places end }
 {
     let start = places.first;
-    let bytes = between(start, in_file(places.base, end));
+    let bytes = in_file(places.base, end).saturating_sub(start);
     Step::Long {
         start,
         bytes,
@@ -177,51 +175,17 @@ fn tell_long(places: Places, end: usize) -> Step
 fn in_file(base: u64, at: usize) -> u64
     ensures { result ≡ in_file base at }
 {
-    std::num::wrapping_add_u64(base, at as u64)
-}
-
-// From one place to another that does not lie before it.
-fn between(start: u64, end: u64) -> u64
-    ensures { result ≡ end - start }
-{
-    if end < start {
-        return 0;
-    }
-    end - start
-}
-
-// Where the last of so many bytes begin, but not before a place.
-fn last_bytes(count: usize, at: usize) -> usize
-    ensures { result ≡ max at (count - last_bytes) }
-{
-    if count < LAST_BYTES {
-        return at;
-    }
-    if count - LAST_BYTES < at {
-        at
-    } else {
-        count - LAST_BYTES
-    }
+    base.wrapping_add(at as u64)
 }
 
 // Moves the bytes from a place on to the front, of so many, and answers how many they are.
 pub fn keep(bytes: &mut [u8], count: usize, from: usize) -> usize
     ensures { Keeps bytes.old count from result bytes.new }
 {
-    let end = least(count, bytes.len());
-    let mut kept: usize = 0;
-    let mut i = from;
-    while i < end {
-        bytes[kept] = bytes[i];
-        kept += 1;
-        i += 1;
+    let end = count.min(bytes.len());
+    if end <= from {
+        return 0;
     }
-    kept
-}
-
-// The smaller of two.
-fn least(a: usize, b: usize) -> usize
-    ensures { result ≡ min a b }
-{
-    if a < b { a } else { b }
+    bytes.copy_within(from..end, 0);
+    end - from
 }

@@ -3,21 +3,16 @@
 #![tactic(auto)]
 
 ghost use Rattle.std.specs.Prelude.{◌≡◌, take, drop};
-ghost use Rattle.words.specs.Words.{line_from, is_dash, DecodesWord};
+ghost use Rattle.words.specs.Words.{line_from, DecodesWord};
 
-use line::Decoded;
+use line::HexError;
 
 // So many bytes from a place on, as far as there are.
 pub fn part(s: &[u8], from: usize, count: usize) -> &[u8]
     ensures { result.now ≡ take count (drop from s.now) }
 {
-    if s.len() < from {
-        return &s[..0];
-    }
-    if s.len() - from < count {
-        return &s[from..];
-    }
-    &s[from..from + count]
+    let rest = s.get(from..).unwrap_or(&[]);
+    &rest[..count.min(rest.len())]
 }
 
 // The line that starts at a place, without what ends it; nothing at a place past the end.
@@ -27,24 +22,15 @@ pub fn line_from(s: &[u8], from: usize) -> &[u8]
     pieces::piece(part(s, from, s.len()), b'\n', 0)
 }
 
-// The bytes that a word is in hex, laid at the front of a lent buffer: `-` is none, and a word of no characters is no hex.
-pub fn unhex_word(word: &[u8], out: &mut [u8]) -> Decoded
+// How many bytes a word is in hex, which are laid at the front of a lent buffer: `-` is none, and a word of no characters is no hex.
+pub fn unhex_word(word: &[u8], out: &mut [u8]) -> Result<usize, HexError>
     ensures { DecodesWord word.now out.old result out.new }
 {
     if word.len() == 0 {
-        return Decoded::NotHex;
+        return Err(HexError::NotHex);
     }
-    if is_dash(word) {
-        return Decoded::Bytes(0);
+    if word == b"-".as_slice() {
+        return Ok(0);
     }
     line::unhex(word, out)
-}
-
-fn is_dash(word: &[u8]) -> bool
-    ensures { result ≡ is_dash word.now }
-{
-    if word.len() != 1 {
-        return false;
-    }
-    word[0] == b'-'
 }

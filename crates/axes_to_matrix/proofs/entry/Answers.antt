@@ -1,24 +1,31 @@
 -- `entry` meets its contract, by the tests that led to each answer. Assumes nothing.
-use Rattle.axes.specs.Matrix.{small, entry_of}
+use Prim.Native.Nat.{ℕ}
 use mathlib.Core.Path.{◌≡◌, sym, ◌∙◌}
+use native.Mathlib.Omega.{arith}
+use lib.Dec.{eqb}
 use lib.Ieee.{of_bits, neg}
 use borrow.Author.Tests.{eq-eqb, ne_eqb}
+use Rattle.std.specs.Char.{to_ascii_lowercase, eq_ignore_ascii_case}
+use Rattle.std.proofs.lemmas.Bool.Decides.{nat_tests}
+use Rattle.axes.specs.Matrix.{small, entry_of}
 use Rattle.axes_to_matrix.proofs.entry.Goals as goal
+
+small_is : (c : ℕ) → small c ≡ to_ascii_lowercase c
+small_is c = grind (arith, nat_tests)
+
+same_letter : (i o : ℕ) → eqb (small i) (small o) ≡ eq_ignore_ascii_case i o
+same_letter i o = simp small_is
 
 pub returns-then-i-o : goal.returns-then-i-o
 unfolding entry_of of_bits
 returns-then-i-o c = simp (eq-eqb _ _ c.if-i-o.true)
 
-pub returns-then-lowered : goal.returns-then-lowered
+pub returns-then-eq_ignore_ascii_case : goal.returns-then-eq_ignore_ascii_case
 unfolding entry_of of_bits neg
-returns-then-lowered c =
-    let a = c.args in
-    let e : small a.i ≡ small a.o = sym c.lowered.ensures ∙ c.if-lowered.true ∙ c.lowered-2.ensures in
-    simp (ne_eqb _ _ c.if-i-o.false, eq-eqb _ _ e)
+returns-then-eq_ignore_ascii_case c =
+    simp (ne_eqb _ _ c.if-i-o.false, same_letter c.args.i c.args.o ∙ sym c.eq_ignore_ascii_case.ensures ∙ c.if-eq_ignore_ascii_case.true)
 
-pub returns-else-lowered : goal.returns-else-lowered
+pub returns-else-eq_ignore_ascii_case : goal.returns-else-eq_ignore_ascii_case
 unfolding entry_of of_bits
-returns-else-lowered c =
-    let a = c.args in
-    let n : small a.i ≡ small a.o → ⊥ = λ e. c.if-lowered.false (c.lowered.ensures ∙ e ∙ sym c.lowered-2.ensures) in
-    simp (ne_eqb _ _ c.if-i-o.false, ne_eqb _ _ n)
+returns-else-eq_ignore_ascii_case c =
+    simp (ne_eqb _ _ c.if-i-o.false, same_letter c.args.i c.args.o ∙ sym c.eq_ignore_ascii_case.ensures ∙ c.if-eq_ignore_ascii_case.false)

@@ -41,15 +41,10 @@ returns-then-s-width c =
     let a = c.args in
     missing a.s.now a.at a.letter c.width-width.result c.width-width.ensures.0 (omega arith)
 
-pub returns-then-s-width-2 : goal.returns-then-s-width-2
-returns-then-s-width-2 c =
-    let a = c.args in
-    missing a.s.now a.at a.letter c.width-width.result c.width-width.ensures.0 (omega arith)
-
 pub element_of-requires : goal.element_of-requires
 element_of-requires c =
     let a = c.args in
-    bounded a.s.now a.at a.letter c.width-width.result c.width-width.ensures.0 c.width-width.ensures.1 c.big_endian.result c.big_endian.ensures (λ i. (c.shared_slice_known-1.given i).fits)
+    bounded a.s.now a.at a.letter c.width-width.result c.width-width.ensures.0 c.width-width.ensures.1 c.big_endian.result c.big_endian.ensures (λ i. (c.type_inv.s i).fits)
 
 pub returns : goal.returns
 returns c =

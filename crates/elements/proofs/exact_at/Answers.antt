@@ -27,9 +27,6 @@ module _ (s : List ℕ) (at : ℕ) where
 pub returns-then-s-lt8 : goal.returns-then-s-lt8
 returns-then-s-lt8 c = let a = c.args in c.fixed_exact.ensures ∙ missing a.s.now a.at (omega arith)
 
-pub returns-then-s-at : goal.returns-then-s-at
-returns-then-s-at c = let a = c.args in c.fixed_exact-then-s-at.ensures ∙ missing a.s.now a.at (omega arith)
-
 pub returns : goal.returns
 returns c =
     let a = c.args in

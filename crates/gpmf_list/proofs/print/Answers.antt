@@ -5,7 +5,7 @@ use Rattle.gpmf_list.proofs.print.Goals as goal
 
 pub returns-then-payload-gt-MOST_HELD : goal.returns-then-payload-gt-MOST_HELD
 returns-then-payload-gt-MOST_HELD c =
-    prints_refused c.args.payload.now c.args.out.now (omega arith) (search rules) c.put_answer.auto.out c.put_answer.ensures
+    prints_refused c.args.payload.now c.args.out.now (omega arith) (search rules) c.put_answer.auto.out (rw c.at.ensures at c.put_answer.ensures)
 
 pub returns : goal.returns
 returns c =

@@ -15,8 +15,8 @@ overflow_add-place c =
 pub number-requires : goal.number-requires
 number-requires c = let a = c.args in omega (arith, is_there a.s.now a.place _ c.no_header.ensures c.if-no_header.false)
 
-pub returns : goal.returns
-returns c =
+pub returns-else-no_header : goal.returns-else-no_header
+returns-else-no_header c =
     let a = c.args in
     let l = is_there a.s.now a.place _ c.no_header.ensures c.if-no_header.false in
     c.number.ensures ∙ shape_there a.s.now a.place l ∙ row_shape_there a.s.now a.place l

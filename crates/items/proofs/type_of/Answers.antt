@@ -4,16 +4,13 @@ use mathlib.Core.Path.{refl}
 use native.Mathlib.Omega.{arith}
 use lib.ListN.{take, drop, length-take}
 use Rattle.texts.proofs.Kept.{kept_length}
-use Rattle.items.proofs.Places.{fits, type_empty, type_other, type_is}
+use Rattle.items.proofs.Places.{fits, type_empty, type_is}
 use mathlib.Core.Bool.{not}
 use mathlib.Core.Path.{ap}
 use Rattle.items.proofs.type_of.Goals as goal
 
 pub returns-then-len-eq0 : goal.returns-then-len-eq0
 returns-then-len-eq0 c = type_empty c.args.s.now c.args.at c.args.klv c.requires c.data_len-len.result c.data_len-len.ensures.0 c.if-len-eq0.true
-
-pub returns-then-not-is_type_text : goal.returns-then-not-is_type_text
-returns-then-not-is_type_text c = type_other c.args.s.now c.args.at c.args.klv c.requires c.is_type_text.result c.is_type_text.ensures (ap not c.if-not-is_type_text.true)
 
 pub overflow_add-start : goal.overflow_add-start
 overflow_add-start c = omega (arith, fits c.args.s.now c.args.at c.args.klv c.requires, c.data_len-len.ensures.0)

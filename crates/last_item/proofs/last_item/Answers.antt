@@ -2,7 +2,9 @@ use mathlib.Core.Path.{◌≡◌, sym, ap, ◌∙◌}
 use mathlib.Core.List.{List}
 use native.Mathlib.Omega.{arith}
 use Prim.Native.Nat.{ℕ}
-use Rattle.klv.specs.declared.Header.{Header}
+use Rattle.std.specs.Prelude.{Result, Err}
+use Rattle.klv.specs.declared.KLV.{KLV}
+use Rattle.klv.specs.declared.Broken.{Broken}
 use Rattle.klv.specs.Header.{header_at}
 use Rattle.klv.proofs.Place.{at_item}
 use Rattle.last_item.proofs.Chain.{start, end, short, past, turn}
@@ -12,31 +14,28 @@ pub loop-place-init : goal.loop-place-init
 loop-place-init c = let a = c.args in start a.s.now a.at
 
 -- the header that was read is the one at the loop's place
-heard : (s : List ℕ) {at place : ℕ} {r x : Header} → at ≡ place → r ≡ header_at s at → r ≡ x → header_at s place ≡ x
+heard : (s : List ℕ) {at place : ℕ} {r x : Result KLV Broken} → at ≡ place → r ≡ header_at s at → r ≡ x → header_at s place ≡ x
 heard s at read found = ap (header_at s) (sym at) ∙ sym read ∙ found
 
-pub returns-in-Short : goal.returns-in-Short
-returns-in-Short c =
+pub returns-in-Err-Short : goal.returns-in-Err-Short
+returns-in-Err-Short c =
     let a = c.args in
-    short a.s.now a.at c.loop-place.place c.loop-place.last c.loop-place.invariant c.loop-place-test.true (heard a.s.now c.new.ensures c.parse_header.ensures c.in-Short.is)
+    ap Err c.at.ensures ∙ short a.s.now a.at c.loop-place.place c.loop-place.last c.loop-place.invariant c.loop-place-test.true (heard a.s.now c.new.ensures c.parse_header.ensures c.in-Err-Short.is ∙ ap Err c.in-Err-Short.field-0-is)
 
-pub returns-in-Past : goal.returns-in-Past
-returns-in-Past c =
+pub returns-in-Err-Past : goal.returns-in-Err-Past
+returns-in-Err-Past c =
     let a = c.args in
-    past a.s.now a.at c.loop-place.place c.loop-place.last c.loop-place.invariant (heard a.s.now c.new.ensures c.parse_header.ensures c.in-Past.is)
+    ap Err c.at-in-Err-Past.ensures ∙ past a.s.now a.at c.loop-place.place c.loop-place.last c.loop-place.invariant (heard a.s.now c.new.ensures c.parse_header.ensures c.in-Err-Past.is ∙ ap Err c.in-Err-Past.field-0-is)
 
-pub overflow_add-place-in-Item : goal.overflow_add-place-in-Item
-overflow_add-place-in-Item c =
-    let w = at_item c.args.s.now c.loop-place.place c.in-Item.klv (heard c.args.s.now c.new.ensures c.parse_header.ensures c.in-Item.is) in
+pub overflow_add-place-in-Ok : goal.overflow_add-place-in-Ok
+overflow_add-place-in-Ok c =
+    let w = at_item c.args.s.now c.loop-place.place c.in-Ok.klv (heard c.args.s.now c.new.ensures c.parse_header.ensures c.in-Ok.is) in
     omega (arith, w.fits, c.aligned_data_len.ensures.0)
-
-pub loop-place-smaller : goal.loop-place-smaller
-loop-place-smaller c = omega (arith, c.loop-place-test.true)
 
 pub loop-place-preserved : goal.loop-place-preserved
 loop-place-preserved c =
     let a = c.args in
-    turn a.s.now a.at c.loop-place.place c.loop-place.last c.loop-place.invariant _ _ (heard c.args.s.now c.new.ensures c.parse_header.ensures c.in-Item.is) c.aligned_data_len.ensures.0
+    turn a.s.now a.at c.loop-place.place c.loop-place.last c.loop-place.invariant _ _ (heard c.args.s.now c.new.ensures c.parse_header.ensures c.in-Ok.is) c.aligned_data_len.ensures.0
 
 pub returns : goal.returns
 returns c =

@@ -1,35 +1,16 @@
-use mathlib.Core.Path.{refl, sym, ◌∙◌}
-use native.Mathlib.Numerals.{add-one}
-use native.Mathlib.Omega.{arith}
-use Rattle.line.proofs.Reading.{no_digit, digit_more, digits_end}
+-- `are_digits` meets its contract: each character is a digit. Assumes nothing.
+use mathlib.Core.Path.{◌∙◌}
+use borrow.Author.Rules.{rules}
+use borrow.Author.Tests.{tests}
+use lib.Dec.{ltb}
+use Rattle.std.proofs.lemmas.Iterator.{YieldsList-from_slice}
+use Rattle.std.proofs.lemmas.Iterator.Search.{all_from_yields_List}
+use Rattle.foundation.specs.Digits.{worth_of}
+use Rattle.line.proofs.Reading.{each_digit}
 use Rattle.line.proofs.are_digits.Goals as goal
-
-pub loop-i-init : goal.loop-i-init
-loop-i-init c = refl
-
-pub bounds-s-i : goal.bounds-s-i
-bounds-s-i c = omega arith
-
-pub digit_worth-requires : goal.digit_worth-requires
-digit_worth-requires c = tt
-
-pub returns-then-base-digit_worth : goal.returns-then-base-digit_worth
-returns-then-base-digit_worth c =
-    let a = c.args in
-    sym (no_digit a.base a.s.now c.loop-i.i (omega arith) (omega arith)) ∙ c.loop-i.invariant
-
-pub overflow_add-i : goal.overflow_add-i
-overflow_add-i c = omega arith
-
-pub loop-i-smaller : goal.loop-i-smaller
-loop-i-smaller c = omega arith
-
-pub loop-i-preserved : goal.loop-i-preserved
-loop-i-preserved c =
-    let a = c.args in
-    rw add-one (sym (digit_more a.base a.s.now c.loop-i.i (omega arith) (omega arith)) ∙ c.loop-i.invariant)
 
 pub returns : goal.returns
 returns c =
     let a = c.args in
-    sym (digits_end a.base a.s.now c.loop-i.i (omega arith)) ∙ c.loop-i.invariant
+    all_from_yields_List (λ x. ltb (worth_of x) a.base) _ _ c.all.result c.all.ensures.ran (YieldsList-from_slice a.s.now c.iter.ensures.rest) (λ x b q k. search (rules, tests))
+    ∙ each_digit a.base a.s.now

@@ -14,35 +14,11 @@ loop-i-init c =
     let a = c.args in
     (omega arith, paste-zero a.out.now 0 (bytes_in a.s.now), refl)
 
-pub overflow_mul-i : goal.overflow_mul-i
-overflow_mul-i c = omega arith
-
-pub bounds-s-i : goal.bounds-s-i
-bounds-s-i c = omega arith
-
-pub overflow_mul-i-in-loop-i : goal.overflow_mul-i-in-loop-i
-overflow_mul-i-in-loop-i c = omega arith
-
-pub overflow_add-i : goal.overflow_add-i
-overflow_add-i c = omega arith
-
-pub bounds-s-i-in-loop-i : goal.bounds-s-i-in-loop-i
-bounds-s-i-in-loop-i c = omega arith
-
 pub byte_of-requires : goal.byte_of-requires
 byte_of-requires c =
     let s = c.args.s.now in
     let i = c.loop-i.i in
     (digit_at 16 s (2 * i) c.requires.s_value (omega arith), digit_at 16 s (2 * i + 1) c.requires.s_value (omega arith))
-
-pub bounds-out-i : goal.bounds-out-i
-bounds-out-i c = omega arith
-
-pub overflow_add-i-in-loop-i : goal.overflow_add-i-in-loop-i
-overflow_add-i-in-loop-i c = omega arith
-
-pub loop-i-smaller : goal.loop-i-smaller
-loop-i-smaller c = omega arith
 
 pub loop-i-preserved : goal.loop-i-preserved
 loop-i-preserved c =

@@ -1,35 +1,11 @@
 use Prim.Native.Nat.{suc, ◌-◌}
 use mathlib.Core.Path.{◌≡◌, refl}
-use native.Mathlib.Nat.{mod-lt}
 use native.Mathlib.Omega.{arith}
 use Rattle.numerals.proofs.Spelling.{one_more, all_laid}
 use Rattle.numerals.proofs.spell.Goals as goal
 
 pub loop-left-init : goal.loop-left-init
 loop-left-init c = record { within = omega arith; long = refl; front = refl; back = refl }
-
-pub overflow_sub-left : goal.overflow_sub-left
-overflow_sub-left c = omega arith
-
-pub nonzero_rem-rest : goal.nonzero_rem-rest
-nonzero_rem-rest c = omega arith
-
-pub digit-requires : goal.digit-requires
-digit-requires c =
-    let a = c.args in
-    omega (arith, mod-lt c.loop-left.rest {m = a.base} (omega arith))
-
-pub overflow_add-out : goal.overflow_add-out
-overflow_add-out c = omega arith
-
-pub bounds-out-at : goal.bounds-out-at
-bounds-out-at c = omega arith
-
-pub nonzero_div-rest : goal.nonzero_div-rest
-nonzero_div-rest c = omega arith
-
-pub loop-left-smaller : goal.loop-left-smaller
-loop-left-smaller c = omega arith
 
 pub loop-left-preserved : goal.loop-left-preserved
 loop-left-preserved c =

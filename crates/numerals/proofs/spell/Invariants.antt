@@ -4,6 +4,3 @@ use Rattle.numerals.proofs.spell.Given as goal
 
 abbrev pub invariant-loop-left : goal.invariant-loop-left
 invariant-loop-left l = Spelling l.initial.out l.at l.n l.base l.count l.out l.rest l.left
-
-abbrev pub decreases-loop-left : goal.decreases-loop-left
-decreases-loop-left l = l.left

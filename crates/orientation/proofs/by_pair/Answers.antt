@@ -1,27 +1,16 @@
--- `by_pair` meets its contract, by the ORIN that was found. Assumes nothing.
-use Rattle.orientation.proofs.Groups.{by_orin}
-use mathlib.Core.Path.{◌∙◌}
+-- `by_pair` meets its contract: what stands is read. Assumes nothing.
+use mathlib.Core.Path.{ap, ◌∙◌}
+use Rattle.std.specs.Prelude.{Ok}
 use Rattle.foundation.specs.Text.{key}
-use Rattle.tagged.specs.declared.Tagged.TheVariants as tagged
 use Rattle.tagged.proofs.Laws.{item_there}
 use Rattle.orientation.proofs.by_pair.Goals as goal
 
-pub by_orio-requires : goal.by_orio-requires
-by_orio-requires c =
-    let a = c.args in
-    item_there a.s.now a.rows.now a.count a.group_kind a.group_key 9 (key "ORIN") _ _ c.tagged_item.ensures c.in-Is.is
+pub by_texts-requires-clause-orin : goal.by_texts-requires-clause-orin
+by_texts-requires-clause-orin c =
+    let g = c.args.group in
+    item_there g.payload.now g.rows.now g.count g.kind g.key 9 (key "ORIN") _ _ c.tagged.ensures (c.in_ok-orin.was ∙ ap Ok c.in-Some.is)
 
-pub returns-in-Refused : goal.returns-in-Refused
-returns-in-Refused c =
-    let a = c.args in
-    by_orin a.s.now a.rows.now a.count a.group_kind a.group_key c.tagged_item.ensures (tagged.Refused _ _) c.in-Refused.is
-
-pub returns-in-Nothing : goal.returns-in-Nothing
-returns-in-Nothing c =
-    let a = c.args in
-    by_orin a.s.now a.rows.now a.count a.group_kind a.group_key c.tagged_item.ensures tagged.Nothing c.in-Nothing.is
-
-pub returns-in-Is : goal.returns-in-Is
-returns-in-Is c =
-    let a = c.args in
-    c.by_orio.ensures ∙ by_orin a.s.now a.rows.now a.count a.group_kind a.group_key c.tagged_item.ensures (tagged.Is _ _) c.in-Is.is
+pub by_texts-requires-clause-orio : goal.by_texts-requires-clause-orio
+by_texts-requires-clause-orio c =
+    let g = c.args.group in
+    item_there g.payload.now g.rows.now g.count g.kind g.key 10 (key "ORIO") _ _ c.tagged-2.ensures (c.in_ok-orio.was ∙ ap Ok c.in-Some-2.is)

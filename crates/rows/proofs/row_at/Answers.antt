@@ -2,7 +2,7 @@
 use mathlib.Core.Path.{ap}
 use native.Mathlib.Omega.{arith}
 use Rattle.rows.specs.Row.{row_at}
-use Rattle.rows.specs.declared.RowAt.TheVariants.{Is}
+use Rattle.std.specs.Prelude.{Some}
 use Rattle.rows.proofs.Laid.{has_row_lem, has_no_row}
 use Rattle.rows.proofs.row_at.Goals as goal
 
@@ -10,7 +10,7 @@ pub returns-then-n-room : goal.returns-then-n-room
 unfolding row_at
 returns-then-n-room c =
     let a = c.args in
-    rw (has_row_lem a.rows.now a.n (omega arith)) (ap Is c.take_row.ensures)
+    rw (has_row_lem a.rows.now a.n (omega arith)) (ap Some c.take_row.ensures)
 
 pub returns : goal.returns
 unfolding row_at

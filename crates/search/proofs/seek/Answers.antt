@@ -1,11 +1,13 @@
 -- `seek` meets its contract: in the last three places there is no room, and before them the near places and then those
 -- behind are searched. Assumes nothing.
 use Prim.Native.Nat.{◌-◌}
-use mathlib.Core.Path.{refl, ◌∙◌, sym, ap}
+use mathlib.Core.Path.{◌≡◌, sym}
 use native.Mathlib.Omega.{arith}
 use lib.ListN.{length}
-use Rattle.search.specs.Search.{or_else}
-use Rattle.search.proofs.Find.{no_room, alone, past_part}
+use Rattle.std.specs.Prelude.{None}
+use Rattle.std.proofs.lemmas.Grind.{common_steps}
+use Rattle.search.specs.Search.{find_from}
+use Rattle.search.proofs.Find.{no_room, alone}
 use Rattle.search.proofs.seek.Goals as goal
 
 pub returns-then-n-lt4 : goal.returns-then-n-lt4
@@ -14,18 +16,8 @@ returns-then-n-lt4 c = sym (no_room _ _ (omega arith))
 pub returns-then-end-from : goal.returns-then-end-from
 returns-then-end-from c = sym (no_room _ _ (omega arith))
 
-pub returns-in-At : goal.returns-in-At
-returns-in-At c =
-    let a = c.args in
-    sym (past_part a.file.now a.from a.from c.so_far-near.result c.by_place.result _ refl c.by_place.ensures c.in-At.is)
-
-pub returns-in-Nothing : goal.returns-in-Nothing
-returns-in-Nothing c =
-    let a = c.args in
-    let s = a.file.now in
-    let found = c.behind.result in
-    sym
-    (past_part s a.from a.from c.so_far-near.result c.by_place.result _ refl c.by_place.ensures c.in-Nothing.is
-    ∙ c.behind.ensures
-    ∙ ap (or_else found) (no_room s (length s - 3) (omega arith))
-    ∙ alone found)
+pub returns : goal.returns
+returns c =
+    let s = c.args.file.now in
+    let none : find_from s (length s - 3) ≡ None = no_room s (length s - 3) (omega arith) in
+    grind (arith, common_steps, none, alone)

@@ -9,4 +9,4 @@ pub returns : goal.returns
 returns c =
     rw c.if-whole.false
     (more c.put_packet_line-line.ensures
-    (more (lines c.put_answer-refused.ensures) (more (one c.put_bytes-front.ensures) (lines c.put_answer.ensures))))
+    (more (lines (rw c.at.ensures at c.put_answer-refused.ensures)) (more (one c.put_bytes-front.ensures) (lines c.put_answer.ensures))))

@@ -10,7 +10,7 @@ returns-then-places-gt0 c = let a = c.args in next_sought a.places a.window.now 
 pub returns-in-Next : goal.returns-in-Next
 returns-in-Next c =
     let a = c.args in
-    next_told a.places a.window.now a.more _ _ _ (Next c.in-Next.packet c.in-Next.rest) (omega arith) c.new.ensures c.next_in.ensures c.in-Next.is
+    next_told a.places a.window.now a.more _ _ _ (Next c.in-Next.next) (omega arith) c.new.ensures c.next_in.ensures c.in-Next.is
     c.tell_packet.ensures
 
 pub returns-in-More : goal.returns-in-More

@@ -3,24 +3,25 @@ use Prim.Native.Nat.{ℕ, ◌+◌, ◌*◌, ◌-◌, ◌/◌, ◌^◌, ◌≤◌
 use mathlib.Core.Path.{◌≡◌}
 use native.Mathlib.Omega.{arith}
 use borrow.Author.Tests.{lt-ltb, le-ltb}
+use Rattle.custom_type.specs.declared.count.Count.TheVariants.{Number, Unreadable}
 use Rattle.foundation.specs.Digits.{worth_of}
 use Rattle.foundation.proofs.Digits.{below_digits, above_digits, decimal_digit}
-use Rattle.custom_type.specs.Held.{digits, unreadable, with_digit}
+use Rattle.custom_type.specs.Held.{with_digit}
 use Rattle.custom_type.proofs.count.with_digit.Goals as goal
 
-low : (n c : ℕ) → c < 48 → unreadable ≡ with_digit n c
+low : (n c : ℕ) → c < 48 → Unreadable ≡ with_digit n c
 low n c h = rw (le-ltb (worth_of c) 10 (below_digits c h))
 
-high : (n c : ℕ) → 57 < c → unreadable ≡ with_digit n c
+high : (n c : ℕ) → 57 < c → Unreadable ≡ with_digit n c
 high n c h = rw (le-ltb (worth_of c) 10 (above_digits c h))
 
 number : (n c : ℕ) → 48 ≤ c → c ≤ 57 → n ≤ (18446744073709551615 - (c - 48)) / 10
-    → digits (n * 10 + (c - 48)) ≡ with_digit n c
+    → Number (n * 10 + (c - 48)) ≡ with_digit n c
 number n c l h f =
     let held : n * 10 + (c - 48) < 2 ^ 64 = omega arith in
     rw (decimal_digit c l h, lt-ltb (c - 48) 10 (omega arith), lt-ltb (n * 10 + (c - 48)) (2 ^ 64) held)
 
-over : (n c : ℕ) → 48 ≤ c → c ≤ 57 → (18446744073709551615 - (c - 48)) / 10 < n → unreadable ≡ with_digit n c
+over : (n c : ℕ) → 48 ≤ c → c ≤ 57 → (18446744073709551615 - (c - 48)) / 10 < n → Unreadable ≡ with_digit n c
 over n c l h f =
     let more : 2 ^ 64 ≤ n * 10 + (c - 48) = omega arith in
     rw (decimal_digit c l h, lt-ltb (c - 48) 10 (omega arith), le-ltb (n * 10 + (c - 48)) (2 ^ 64) more)

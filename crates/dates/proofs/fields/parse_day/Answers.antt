@@ -1,33 +1,23 @@
 -- `parse_day` meets its contract: the first field that is not read, or all of them. Assumes nothing.
-use mathlib.Core.Path.{sym, subst, ◌∙◌}
-use Rattle.dates.specs.Bounds.{AYear}
+use mathlib.Core.Path.{sym}
 use Rattle.dates.specs.Fields.{day_of}
 use Rattle.dates.proofs.Readings.{later}
 use Rattle.dates.proofs.fields.parse_day.Goals as goal
 
-pub returns-in_default : goal.returns-in_default
+pub returns-in_err-year : goal.returns-in_err-year
 unfolding day_of
-returns-in_default c =
-    let other = sym c.year.ensures.0 ∙ c.in_default.is in
-    (simp (other, later), tt)
+returns-in_err-year c = rw c.from_residual.ensures (simp (sym c.in_err-year.ensures.0, later), tt)
 
-pub returns-in_default-unsigned : goal.returns-in_default-unsigned
+pub returns-in_err-month : goal.returns-in_err-month
 unfolding day_of
-returns-in_default-unsigned c =
-    let other = sym c.unsigned.ensures.0 ∙ c.in_default-unsigned.is in
-    (simp (other, later), tt)
+returns-in_err-month c = rw c.from_residual-in_err-month.ensures (simp (sym c.in_err-month.ensures.0, later), tt)
 
-pub returns-in_default-unsigned-2 : goal.returns-in_default-unsigned-2
+pub returns-in_err-day : goal.returns-in_err-day
 unfolding day_of
-returns-in_default-unsigned-2 c =
-    let other = sym c.unsigned-2.ensures.0 ∙ c.in_default-unsigned-2.is in
-    (simp (other, later), tt)
+returns-in_err-day c = rw c.from_residual-in_err-day.ensures (simp (sym c.in_err-day.ensures.0, later), tt)
 
 pub returns : goal.returns
 unfolding day_of
 returns c =
-    let year = sym c.year.ensures.0 ∙ c.in-Is.is in
-    let month = sym c.unsigned.ensures.0 ∙ c.in-Is-unsigned.is in
-    let day = sym c.unsigned-2.ensures.0 ∙ c.in-Is-unsigned-2.is in
-    let bound = subst AYear c.in-Is.is c.year.ensures.1 in
-    (rw (year, month, day), record { first_year = bound.0; last_year = bound.1 })
+    let bound = c.in_ok-year.ensures.1 in
+    (rw (sym c.in_ok-year.ensures.0, sym c.in_ok-month.ensures.0, sym c.in_ok-day.ensures.0), record { first_year = bound.0; last_year = bound.1 })

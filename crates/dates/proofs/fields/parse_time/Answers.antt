@@ -1,8 +1,7 @@
 -- `parse_time` meets its contract: the first field that is not read, or all of them. Assumes nothing.
-use mathlib.Core.Path.{sym, subst, ◌∙◌}
+use mathlib.Core.Path.{sym}
 use borrow.Author.Tests.{lt-ltb, le-ltb}
 use lib.ListN.{get_or}
-use Rattle.dates.specs.Bounds.{Below}
 use Rattle.dates.specs.Fields.{time_of}
 use Rattle.dates.proofs.Readings.{later}
 use Rattle.dates.proofs.fields.parse_time.Goals as goal
@@ -13,37 +12,24 @@ returns-then-text-ge128 c =
     let text = c.args.text.now in
     (simp (le-ltb (get_or text 12 0) 128 c.if-text-ge128.true, later), tt)
 
-pub returns-in_default : goal.returns-in_default
+pub returns-in_err-hour : goal.returns-in_err-hour
 unfolding time_of
-returns-in_default c =
-    let other = sym c.unsigned.ensures.0 ∙ c.in_default.is in
-    (simp (other, later), tt)
+returns-in_err-hour c = rw c.from_residual.ensures (simp (sym c.in_err-hour.ensures.0, later), tt)
 
-pub returns-in_default-unsigned : goal.returns-in_default-unsigned
+pub returns-in_err-minute : goal.returns-in_err-minute
 unfolding time_of
-returns-in_default-unsigned c =
-    let other = sym c.unsigned-2.ensures.0 ∙ c.in_default-unsigned.is in
-    (simp (other, later), tt)
+returns-in_err-minute c = rw c.from_residual-in_err-minute.ensures (simp (sym c.in_err-minute.ensures.0, later), tt)
 
-pub returns-in_default-unsigned-2 : goal.returns-in_default-unsigned-2
+pub returns-in_err-second : goal.returns-in_err-second
 unfolding time_of
-returns-in_default-unsigned-2 c =
-    let other = sym c.unsigned-3.ensures.0 ∙ c.in_default-unsigned-2.is in
-    (simp (other, later), tt)
+returns-in_err-second c = rw c.from_residual-in_err-second.ensures (simp (sym c.in_err-second.ensures.0, later), tt)
 
-pub returns-in_default-unsigned-3 : goal.returns-in_default-unsigned-3
+pub returns-in_err-millisecond : goal.returns-in_err-millisecond
 unfolding time_of
-returns-in_default-unsigned-3 c =
-    let other = sym c.unsigned-4.ensures.0 ∙ c.in_default-unsigned-3.is in
-    (simp (other, later), tt)
+returns-in_err-millisecond c = rw c.from_residual-in_err-millisecond.ensures (simp (sym c.in_err-millisecond.ensures.0, later), tt)
 
 pub returns : goal.returns
 unfolding time_of
 returns c =
     let ascii = lt-ltb (get_or c.args.text.now 12 0) 128 c.if-text-ge128.false in
-    let hour = sym c.unsigned.ensures.0 ∙ c.in-Is.is in
-    let minute = sym c.unsigned-2.ensures.0 ∙ c.in-Is-unsigned.is in
-    let second = sym c.unsigned-3.ensures.0 ∙ c.in-Is-unsigned-2.is in
-    let millisecond = sym c.unsigned-4.ensures.0 ∙ c.in-Is-unsigned-3.is in
-    let bound = subst (Below 1000) c.in-Is-unsigned-3.is c.unsigned-4.ensures.1 in
-    (rw (hour, minute, second, millisecond, ascii), bound)
+    (rw (sym c.in_ok-hour.ensures.0, sym c.in_ok-minute.ensures.0, sym c.in_ok-second.ensures.0, sym c.in_ok-millisecond.ensures.0, ascii), c.in_ok-millisecond.ensures.1)

@@ -7,6 +7,6 @@ pub returns-then-self-eq-TYPE : goal.returns-then-self-eq-TYPE
 unfolding type_text
 returns-then-self-eq-TYPE c = simp (eq-eqb _ _ c.if-self-eq-TYPE.true) c.is_one_text.ensures
 
-pub returns : goal.returns
+pub returns-else-self-eq-TYPE : goal.returns-else-self-eq-TYPE
 unfolding type_text
-returns c = simp (ne_eqb _ _ c.if-self-eq-TYPE.false)
+returns-else-self-eq-TYPE c = simp (ne_eqb _ _ c.if-self-eq-TYPE.false)

@@ -2,8 +2,7 @@
 use Prim.Native.Nat.{◌+◌, ◌-◌}
 use mathlib.Core.Path.{◌≡◌, ◌∙◌, ap}
 use native.Mathlib.Omega.{arith}
-use Rattle.search.specs.declared.Found.{Found}
-use Rattle.search.specs.declared.Found.TheVariants.{At}
+use Rattle.std.specs.Prelude.{ℕ, Option, Some}
 use Rattle.search.specs.Search.{find_from, or_else, with_left}
 use Rattle.search.proofs.Find.{some_left}
 use Rattle.search.proofs.block.in_block.Goals as goal
@@ -19,7 +18,7 @@ returns c =
     let a = c.args in
     let left = c.left_from-left.result in
     let fits = c.left_from-left.ensures.0 in
-    let place : a.from + a.places - left ≡ a.from + c.count.result = omega arith in
+    let place : a.from + a.places - left ≡ a.from + c.from.result = omega arith in
     c.left_from-left.ensures.1
-    ∙ ap (λ (found : Found). or_else found (find_from a.s.now (a.from + a.places)))
-    (some_left (a.from + a.places) left c.if-left-eq0.false ∙ ap At place)
+    ∙ ap (λ (found : Option ℕ). or_else found (find_from a.s.now (a.from + a.places)))
+    (some_left (a.from + a.places) left c.if-left-eq0.false ∙ ap Some place)

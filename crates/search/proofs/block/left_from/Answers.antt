@@ -12,7 +12,7 @@ loop-left-preserved c =
     let a = c.args in
     let here = begins devc (drop c.loop-left.k a.s.now) in
     let on = counted a.s.now a.from c.loop-left.k (a.from + a.places) c.loop-left.most c.loop-left.left here c.loop-left.invariant.0 (omega arith) c.loop-left.invariant.3 c.loop-left.invariant.4 refl in
-    let is : c.greater-most.result ≡ max c.loop-left.most (cond here c.loop-left.left 0) = c.greater-most.ensures ∙ ap (max c.loop-left.most) c.left_at.ensures in
+    let is : c.max-most.result ≡ max c.loop-left.most (cond here c.loop-left.left 0) = c.max-most.ensures ∙ ap (max c.loop-left.most) c.left_at.ensures in
     let room = counts a.places c.loop-left.most c.loop-left.left here c.loop-left.invariant.1 c.loop-left.invariant.2 (omega arith) c.loop-left.invariant.3 in (
       omega arith,
       subst (λ n. n ≤ a.places) (sym is) room.0,

@@ -7,4 +7,4 @@ use Rattle.search.proofs.filters.may_begin_at_two.Goals as goal
 pub returns : goal.returns
 returns c = λ e.
     let a = c.args in
-    not_at_two a.s.now a.k a.words.at a.words.bits a.words.are c.wide.result c.wide-2.result (search rules) c.requires.words_agree c.wide.ensures.0 c.wide-2.ensures.0 e
+    not_at_two a.s.now a.k a.words.at a.words.bits a.words.are c.from.result c.from-2.result (search rules) c.requires.words_agree c.from.ensures c.from-2.ensures e

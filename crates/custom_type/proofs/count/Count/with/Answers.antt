@@ -1,20 +1,21 @@
 -- `with` meets its contract, by what was collected and the character. Assumes nothing.
+use native.Mathlib.Omega.{arith}
 use borrow.Author.Tests.{eq-eqb, ne_eqb}
 use Rattle.custom_type.specs.Held.{next_count}
 use Rattle.custom_type.proofs.count.Count.with.Goals as goal
 
-pub returns-then-c-eq43 : goal.returns-then-c-eq43
+pub returns-in-Empty : goal.returns-in-Empty
 unfolding next_count
-returns-then-c-eq43 c = rw (next_count, c.if-self.true, eq-eqb c.args.c 43 c.if-c-eq43.true)
+returns-in-Empty c = rw (c.in-Empty.is, eq-eqb c.args.c 43 (omega arith))
 
-pub returns-then-self : goal.returns-then-self
+pub returns-in-Empty-2 : goal.returns-in-Empty-2
 unfolding next_count
-returns-then-self c = rw (next_count, c.if-self.true, ne_eqb c.args.c 43 c.if-c-eq43.false) c.with_digit.ensures
+returns-in-Empty-2 c = rw (c.in-Empty-2.is, ne_eqb c.args.c 43 (omega arith)) c.with_digit.ensures
 
-pub returns-then-self-2 : goal.returns-then-self-2
+pub returns-in-Number : goal.returns-in-Number
 unfolding next_count
-returns-then-self-2 c = rw (next_count, c.if-self.false, c.if-self-2.true) c.with_digit-then-self-2.ensures
+returns-in-Number c = rw c.in-Number.is c.with_digit-in-Number.ensures
 
-pub returns : goal.returns
+pub returns-in-Unreadable : goal.returns-in-Unreadable
 unfolding next_count
-returns c = rw (next_count, c.if-self.false, c.if-self-2.false)
+returns-in-Unreadable c = rw c.in-Unreadable.is

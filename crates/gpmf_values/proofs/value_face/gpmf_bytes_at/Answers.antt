@@ -1,7 +1,0 @@
--- `gpmf_bytes_at` meets its contract: it is the call of its name, told as a record. Assumes nothing.
-use mathlib.Core.Path.{ap, ◌∙◌}
-use Rattle.answers.specs.Answers.{of_part}
-use Rattle.gpmf_values.proofs.value_face.gpmf_bytes_at.Goals as goal
-
-pub returns : goal.returns
-returns c = c.of_part.ensures ∙ ap of_part c.bytes_at.ensures

@@ -1,8 +1,0 @@
--- `told_by` meets its contract, by the variant that was met. Assumes nothing.
-use Rattle.orientation.proofs.told_by.Goals as goal
-
-pub returns-in-Is : goal.returns-in-Is
-returns-in-Is c = simp c.in-Is.is
-
-pub returns-in-Refused : goal.returns-in-Refused
-returns-in-Refused c = simp c.in-Refused.is
