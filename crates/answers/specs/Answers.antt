@@ -1,5 +1,6 @@
--- What a whole number, an item and a part are told as to a caller in another language: a record of numbers, of which those that the answer does not have
--- are 0 (document 01, Refusal numbers: "A refusal returns its number, a place and zeros"). Assumes nothing: these are definitions.
+-- What a whole number, an item and a part are told as to a caller in another language: a record of numbers, of which
+-- those that the answer does not have are 0 (document 01, Refusal numbers: "A refusal returns its number, a place and
+-- zeros"). Assumes nothing: these are definitions.
 use Rattle.std.specs.Prelude.{ℕ, Option, Some, None, Result, Ok, Err}
 use Rattle.foundation.specs.Refusals.{number_of}
 use Rattle.foundation.specs.declared.refusal.Fault.{Fault}
@@ -30,14 +31,18 @@ whole_told (Ok (Some n)) = whole is 0 0 n
 whole_told (Ok None) = whole nothing 0 0 0
 whole_told (Err r) = whole refused r.number r.place 0
 
--- refusal 8: an expanded type over 256 characters
-abbrev pub of_expanded : Result ℕ Fault → WholeAnswer
-of_expanded (Ok n) = whole is 0 0 n
-of_expanded (Err f) = whole refused (number_of f) 0 0
+-- a whole number, or a fault by its number, at place 0
+abbrev pub fault_told : Result ℕ Fault → WholeAnswer
+fault_told (Ok n) = whole is 0 0 n
+fault_told (Err f) = whole refused (number_of f) 0 0
 
--- refusals 6 and 7: too few bytes for a date, and one that is not readable
+-- the characters of an expanded type: over 256 of them are refusal 8 (`told` of `custom_type`)
+abbrev pub of_expanded : Result ℕ Fault → WholeAnswer
+of_expanded = fault_told
+
+-- the milliseconds of a date: too few bytes are refusal 6, and one that is not readable 7 (`date_of` of `dates`)
 abbrev pub of_date : Result ℕ Fault → WholeAnswer
-of_date = of_expanded
+of_date = fault_told
 
 -- the columns of a row, or how many elements were laid
 abbrev pub of_count : Result ℕ Refusal → WholeAnswer
@@ -108,14 +113,13 @@ of_part (Err r) = part refused r.number r.place 0 0
 
 -- the place of a DEVC
 abbrev pub of_devc : Option ℕ → WholeAnswer
-of_devc (Some n) = whole is 0 0 n
-of_devc None = whole nothing 0 0 0
+of_devc x = whole_told (Ok x)
 
 -- ---- what is read out of a line
 
 -- the number that a word is, or none
 abbrev pub of_number : Option ℕ → WholeAnswer
-of_number = of_devc
+of_number x = whole_told (Ok x)
 
 -- how many bytes hex digits tell; `more` where they do not fit
 abbrev pub of_decoded : Result ℕ HexError → WholeAnswer

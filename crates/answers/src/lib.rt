@@ -1,6 +1,7 @@
-// Answers as plain records of numbers, for callers in other languages: the kind of answer, a refusal's number and place, and the values.
-// What an answer does not have is 0. Here whole numbers, items and parts.
-// Each record has a kind, a number and a place of its own, and kinds are numbers: the C interface.
+// Answers as plain records of numbers, for callers in other languages: the kind of answer, a refusal's number and place,
+// and the values. What an answer does not have is 0. Here whole numbers, items and parts.
+// Each record has a kind, a number and a place of its own, and kinds are numbers: the C interface. Each `of_..` is a
+// function and no `From`, since it is a public call with its promise (docs/PROMISES.md).
 
 #![tactic(auto)]
 

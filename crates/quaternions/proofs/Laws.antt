@@ -12,11 +12,11 @@ use Rattle.tagged.specs.Number.{Sixteen, Held}
 use Rattle.tagged.specs.declared.Tagged.{Tagged}
 use Rattle.tagged.specs.Read.{read_at}
 use Rattle.tagged.proofs.Numbers.{s_held}
-use Rattle.quaternions.specs.Ready.{Halves}
+use Rattle.quaternions.specs.Ready.{HalvesStand}
 
 -- an element of such an item that was read
 pub has_16 : (s : List ℕ) (t : Tagged) (row column : ℕ) {d : Result Element Refusal} {e : Element}
-    → Halves s t → AreBytes s → d ≡ read_at s t.place row column → d ≡ Ok e → Sixteen e
+    → HalvesStand s t → AreBytes s → d ≡ read_at s t.place row column → d ≡ Ok e → Sixteen e
 has_16 s t row column h bytes is there = subst (Held Sixteen) (sym is ∙ there) (s_held s bytes t.place t.klv h.stands row column h.letter)
 
 -- the usual scale, 32767, by its bits

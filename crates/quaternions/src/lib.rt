@@ -5,7 +5,7 @@
 ghost use Rattle.std.specs.Prelude.{◌≡◌};
 ghost use Rattle.tagged.specs.Number.{signed_number, Sixteen};
 ghost use Rattle.quaternions.specs.Scaled.{number_at, scale_of, quaternion_at, quaternion_of};
-ghost use Rattle.quaternions.specs.Ready.{Halves};
+ghost use Rattle.quaternions.specs.Ready.{HalvesStand};
 
 use elements::Element;
 use foundation::refusal::Refusal;
@@ -30,7 +30,7 @@ fn sixteen(e: Element) -> i16
 // The number at a row and a column of an item.
 #[tactic(auto, unfolding(crate::specs::Scaled::number_at))]
 fn number_at(s: &[u8], item: Tagged, row: usize, column: usize) -> Result<i16, Refusal>
-    requires { Halves s.now item }
+    requires { HalvesStand s.now item }
     ensures { result ≡ number_at s.now item.place row column }
 {
     let e = values::element(s, item.place as usize, items::NO_TYPE, row, column)?;
@@ -59,7 +59,7 @@ fn quaternion_at(
     row: usize,
     scale: f64,
 ) -> Result<Option<Quaternion>, Refusal>
-    requires { Halves s.now item }
+    requires { HalvesStand s.now item }
     ensures { result ≡ quaternion_at s.now item.place row scale }
 {
     let w = number_at(s, item, row, 0)?;

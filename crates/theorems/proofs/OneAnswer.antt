@@ -1,5 +1,6 @@
 -- ONE ANSWER: for each public call, two answers that both keep its promise on the same arguments are equal.
--- A lemma for each call, since each has a type of its own by the source. `Learnt` is what the prover reads off the `ensures` of the source: no promise is copied here. Assumes nothing.
+-- A lemma for each call, since each has a type of its own by the source. `Learnt` is what the prover reads off the
+-- `ensures` of the source: no promise is copied here. Assumes nothing.
 use Prim.Native.Nat.{ℕ}
 use mathlib.Core.Path.{◌≡◌, sym, ◌∙◌}
 use mathlib.Core.List.{List}
@@ -754,7 +755,8 @@ both_said : {M : Type 1} (𝓤 : Ura M) (φ ψ χ : Type 0) → (φ → ψ → �
 both_said 𝓤 φ ψ χ f =
     fact_use 𝓤 φ (fst∗ 𝓤 (fact 𝓤 φ) (fact 𝓤 ψ)) (λ p. fact_use 𝓤 ψ (snd∗ 𝓤 (fact 𝓤 φ) (fact 𝓤 ψ)) (λ q. fact_i 𝓤 χ (sep 𝓤 (fact 𝓤 φ) (fact 𝓤 ψ)) (f p q)))
 
--- of a method of a view, and of what is asked of a group, nothing is read off the source but the clauses themselves: what they ensure of two results, together, says that what `of` reads of them is the same
+-- of a method of a view, and of what is asked of a group, nothing is read off the source but the clauses themselves: what
+-- they ensure of two results, together, says that what `of` reads of them is the same
 abbrev pub OneOfMethod : {M : Type 1} (𝓤 : Ura M) {B : Type 0} (T : Ended) → ((κs : Lfts T.signature.lifetimes) → Res T.signature κs → B) → Clauses 𝓤 T → Type 1
 OneOfMethod 𝓤 T of promise =
     (κs : Lfts T.signature.lifetimes) (a : Args T.signature κs) (g : (promise κs a).ghost) (x y : Res T.signature κs) (s t : AtExit T κs)

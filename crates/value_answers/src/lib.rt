@@ -1,4 +1,6 @@
 // Elements, shapes and averages as plain records of numbers, for callers in other languages, as crate `answers` has it.
+// Each record has a kind, a number and a place of its own, and kinds are numbers: the C interface. Each `of_..` is a
+// function and no `From`, since it is a public call with its promise (docs/PROMISES.md).
 
 #![tactic(auto)]
 
