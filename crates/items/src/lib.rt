@@ -32,12 +32,13 @@ impl Span {
     }
 }
 
-// An item: its header, and where its payload and its TYPE text stand.
+// An item: its header, and where its payload and its TYPE text stand. The header in front tried and slower: there it lies
+// over a refusal's number, so it is written in two halves, and to read it whole waits for both.
 #[derive(Clone, Copy, PartialEq, Eq, Debug)]
 pub struct Item {
-    pub klv: KLV,
-    pub payload: Span,
     pub type_text: Span,
+    pub payload: Span,
+    pub klv: KLV,
 }
 
 // The text of an item that stands whole at a place, if it is a TYPE.

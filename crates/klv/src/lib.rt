@@ -80,13 +80,13 @@ pub enum Broken {
     Past,
 }
 
-// The header of eight bytes.
+// The header of eight bytes. The key by `big_endian` tried and slower: read byte by byte, where one load serves.
 fn read_header(s: &[u8]) -> KLV
     requires { 8 ≤ length s.now }
     ensures { result ≡ header_of s.now }
 {
     KLV {
-        key: big_endian(&s[..4]) as u32,
+        key: u32::from_be_bytes([s[0], s[1], s[2], s[3]]),
         data_type: s[4],
         size: s[5],
         repeat: big_endian(&s[6..8]) as u16,

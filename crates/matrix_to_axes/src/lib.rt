@@ -2,32 +2,36 @@
 
 #![tactic(auto)]
 
-ghost use Rattle.std.specs.Prelude.{◌≡◌};
+ghost use Rattle.std.specs.Prelude.{◌≡◌, ◌<◌};
 ghost use Rattle.axes.specs.Back.{beyond, axis_of, lettered, orientation_of, orientation_in};
+ghost use Rattle.matrix_to_axes.specs.Letters.{told};
 
 use axes::Axes;
 use foundation::refusal::{Fault, Refusal};
 
-// The letter of a column beyond 0.5 in size, the small one if it is negative; else what the next columns name.
-fn beyond_half(x: f32, letter: u8, less: u8, next: Option<u8>) -> Option<u8>
-    ensures { result ≡ beyond x letter less next }
+// The letter of a column beyond 0.5 in size, the small one if it is negative; else what the next columns name. 0 stands
+// for none: as an `Option` each column would be compared twice, for the letter and for whether there is one.
+fn beyond_half(x: f32, letter: u8, less: u8, next: u8) -> u8
+    requires { (0 < letter) × (0 < less) }
+    ensures { told result ≡ beyond x letter less (told next) }
 {
     if x > 0.5 {
-        return Some(letter);
+        return letter;
     }
-    if x < -0.5 { Some(less) } else { next }
+    if x < -0.5 { less } else { next }
 }
 
 // The axis that a row names.
 fn axis(row: [f32; 3]) -> Option<u8>
     ensures { result ≡ axis_of row }
 {
-    beyond_half(
+    let letter = beyond_half(
         row[0],
         b'X',
         b'x',
-        beyond_half(row[1], b'Y', b'y', beyond_half(row[2], b'Z', b'z', None)),
-    )
+        beyond_half(row[1], b'Y', b'y', beyond_half(row[2], b'Z', b'z', 0)),
+    );
+    if letter == 0 { None } else { Some(letter) }
 }
 
 // The axes of three letters, of which none is missing.

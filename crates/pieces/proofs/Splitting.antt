@@ -1,13 +1,16 @@
 -- The pieces of a text: the first reaches up to the first b, and behind that byte stand the others. Assumes nothing.
-use Prim.Native.Nat.{ℕ, suc, ◌≤◌}
+use Prim.Native.Nat.{ℕ, suc, ◌+◌, ◌≤◌, ◌<◌}
 use mathlib.Core.Path.{◌≡◌, refl, ap, ◌∙◌}
 use mathlib.Core.Bool.{Bool, true, false, cond}
 use mathlib.Core.List.{List, [], ◌∷◌}
 use native.Mathlib.Nat.{le_refl}
+use native.Mathlib.Numerals.{add-one}
 use native.Mathlib.Omega.{arith}
 use lib.Dec.{eqb}
-use lib.ListN.{length, get_or, take}
-use lib.Seq.{length-take-le}
+use lib.ListN.{length, get_or, take, drop, drop_of_length-le}
+use lib.Seq.{drop-cons, length-take-le}
+use mir.Val.{bool_byte}
+use Rattle.std.proofs.Common.{nat_eq}
 use Rattle.std.specs.Prelude.{◌==◌}
 use Rattle.std.specs.List.{slice_split, onto_first}
 use Rattle.foundation.specs.Pieces.{count_one, before, in_front, ends, pieces_of}
@@ -56,3 +59,23 @@ parts b (c ∷ s) = by (eqb c b) (parts b s)
         → cond t ([] ∷ slice_split (λ c. c == b) s) (onto_first c (slice_split (λ c. c == b) s)) ≡ ends t c (pieces_of b s)
     by true ih = ap (λ (l : List (List ℕ)). [] ∷ l) ih
     by false ih = front (slice_split (λ c. c == b) s) ∙ ap (in_front c) ih
+
+-- COUNTING: a byte that ends a piece makes one more
+pub piece_counts : (b : ℕ) (s : List ℕ) (i : ℕ) → i < length s
+    → length (pieces_of b (drop i s)) ≡ bool_byte (nat_eq (get_or s i 0) b) + length (pieces_of b (drop (i + 1) s))
+piece_counts b s i h = rw (drop-cons s i 0 h, add-one i) (by (eqb (get_or s i 0) b))
+  where
+    rest : List ℕ
+    rest = drop (suc i) s
+
+    by : (t : Bool) → length (ends t (get_or s i 0) (pieces_of b rest)) ≡ bool_byte t + length (pieces_of b rest)
+    by true = omega arith
+    by false = rw (first_piece b rest) (omega arith)
+
+pub at_most_one : (t : Bool) → bool_byte t ≤ 1
+at_most_one true = omega arith
+at_most_one false = omega arith
+
+-- THE LAST PIECE is there where no byte is left
+pub last_piece : (b : ℕ) (s : List ℕ) (i : ℕ) → length s ≤ i → length (pieces_of b (drop i s)) ≡ 1
+last_piece b s i h = rw (drop_of_length-le s h)

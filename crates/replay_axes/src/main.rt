@@ -23,9 +23,14 @@ fn input_buffer() -> [u8; 1048576] {
 // An empty line has no answer. Each replay has this for itself: a public function that takes what answers would have a
 // `requires`, and none has one.
 fn answer_all(rt: &impl Print, input: &[u8]) -> io::Result<()> {
-    for question in input.split(|b| *b == b'\n').filter(|line| !line.is_empty()) {
-        questions::answer(rt, question)?;
-        rt.write_all(b"\n")?;
+    let mut from = 0;
+    while from < input.len() {
+        let question = words::line_from(input, from);
+        if !question.is_empty() {
+            questions::answer(rt, question)?;
+            rt.write_all(b"\n")?;
+        }
+        from += question.len() + 1;
     }
     Ok(())
 }

@@ -50,7 +50,11 @@ fn write_columns(rt: &impl Print, value: View, row: usize) -> io::Result<()> {
 // Bits in hex, whole numbers in decimal, behind a letter for their form.
 fn write_element(rt: &impl Print, element: Element) -> io::Result<()> {
     match element {
-        Element::Signed(n) => print!(rt; "i{n}"),
+        Element::Signed(n) => {
+            let mut shown = [b'i'; 21];
+            let end = numerals::put_signed(&mut shown, 1, n);
+            rt.write_all(words::part(&shown, 0, end))
+        }
         Element::Unsigned(n) => print!(rt; "u{n}"),
         Element::Single(x) => {
             let bits = float_bits::single_bits(x);

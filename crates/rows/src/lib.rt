@@ -93,10 +93,10 @@ pub fn row_at(rows: &[u32], n: usize) -> Option<Row>
 fn matches(row: Row, group_kind: u32, group_key: u32, tag: u32, key: u32) -> bool
     ensures { result ≡ matching group_kind group_key tag key row }
 {
-    row.group_kind == group_kind
-        && row.group_key == group_key
-        && row.tag == tag
-        && (tag != 0 || row.key == key)
+    if row.group_kind != group_kind || row.group_key != group_key || row.tag != tag {
+        return false;
+    }
+    tag != 0 || row.key == key
 }
 
 // The index of the last of the first `count` rows that is of a group and a tag, and under tag 0 of a key.

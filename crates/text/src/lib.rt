@@ -21,12 +21,15 @@ pub fn put(out: &mut [u8], at: usize, b: u8) -> usize
     at + 1
 }
 
-// Lays bytes as they are.
+// Lays bytes as they are. One by one: `copy_from_slice` becomes a call of memmove, which the library would need from
+// outside.
 pub fn put_bytes(out: &mut [u8], at: usize, text: &[u8]) -> usize
     ensures { Lays text.now out.old at result out.new }
 {
     if has_room(out.len(), at, text.len()) {
-        out[at..at + text.len()].copy_from_slice(text);
+        for (i, b) in text.iter().enumerate() {
+            out[at + i] = *b;
+        }
         return at + text.len();
     }
     FULL

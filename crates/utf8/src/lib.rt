@@ -76,13 +76,11 @@ fn is_ascii(text: &[u8]) -> bool
     only
 }
 
-// Well-formed UTF-8, all of it.
-pub fn is_utf8(text: &[u8]) -> bool
+// Well-formed UTF-8, all of it, byte by byte. Called, so that the loops of its callers stay short.
+#[inline(never)]
+fn is_utf8_by_bytes(text: &[u8]) -> bool
     ensures { result ≡ well_formed text.now }
 {
-    if is_ascii(text) {
-        return true;
-    }
     let mut expected = Expected::First;
     for b in text {
         expected = after(expected, *b);
@@ -90,12 +88,49 @@ pub fn is_utf8(text: &[u8]) -> bool
     may_end(expected)
 }
 
-// One text, cut at its first zero.
+// The same, in one pass where all is ASCII.
+pub fn is_utf8(text: &[u8]) -> bool
+    ensures { result ≡ well_formed text.now }
+{
+    if is_ascii(text) {
+        return true;
+    }
+    is_utf8_by_bytes(text)
+}
+
+// One text, cut at its first zero. Called too.
+#[inline(never)]
 fn is_utf8_text(text: &[u8]) -> bool
     ensures { result ≡ is_well_formed_text text.now }
 {
     let end = texts::utf8_len(text);
     is_utf8(&text[..end])
+}
+
+// The same, where it does not begin with ASCII.
+fn is_utf8_rest(text: &[u8]) -> bool
+    ensures { result ≡ is_well_formed_text text.now }
+{
+    let end = texts::utf8_len(text);
+    if end == 0 {
+        return true;
+    }
+    is_utf8_by_bytes(&text[..end])
+}
+
+// The same: a short one by one look at each byte for as long as they are ASCII, as most of several texts are.
+fn is_short_utf8_text(text: &[u8]) -> bool
+    ensures { result ≡ is_well_formed_text text.now }
+{
+    if text.len() > 16 {
+        return is_utf8_text(text);
+    }
+    for (i, b) in text.iter().enumerate() {
+        if *b == 0 || *b >= 0x80 {
+            return is_utf8_rest(&text[i..]);
+        }
+    }
+    true
 }
 
 // Each of the texts, size bytes long, is well-formed UTF-8 up to its first zero. With size 0 all is one text.
@@ -106,7 +141,7 @@ pub fn are_utf8(texts: &[u8], size: usize) -> bool
         return is_utf8_text(texts);
     }
     for text in texts.chunks(size) {
-        if !is_utf8_text(text) {
+        if !is_short_utf8_text(text) {
             return false;
         }
     }

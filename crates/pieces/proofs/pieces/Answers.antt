@@ -1,16 +1,15 @@
--- `pieces` meets its contract: the parts that `split` gives, counted. Assumes nothing.
-use Rattle.std.proofs.Common.{rules, ap, length, ◌∙◌}
-use borrow.Author.Tests.{tests}
-use mathlib.Core.List.{List}
-use Prim.Native.Nat.{ℕ}
-use Rattle.std.proofs.lemmas.Iterator.Consumers.{count_from_yields_List}
-use Rattle.std.proofs.lemmas.Iterator.Splits.{YieldsList-from_slice_split}
-use Rattle.pieces.proofs.Splitting.{parts}
+use Rattle.std.proofs.Common.{get_or, nat_eq}
+use native.Mathlib.Omega.{arith}
+use Rattle.pieces.proofs.Splitting.{piece_counts, at_most_one, last_piece}
 use Rattle.pieces.proofs.pieces.Goals as goal
 
-pub returns : goal.returns
-returns c =
+pub loop-c-preserved : goal.loop-c-preserved
+loop-c-preserved c =
     let a = c.args in
-    count_from_yields_List c.split.result c.count.result c.count.ensures.ran
-    (YieldsList-from_slice_split _ _ a.s.now c.split.ensures.rest c.split.ensures.done c.split.ensures.closure (λ x r q k. search (rules, tests)))
-    ∙ ap (λ (l : List (List ℕ)). length l) (parts a.b a.s.now)
+    let i = c.loop-c.c-index in
+    let next = piece_counts a.b a.s.now i (omega arith) in
+    let one = at_most_one (nat_eq (get_or a.s.now i 0) a.b) in
+    (omega (arith, next, c.from-count.ensures), omega (arith, one, c.from-count.ensures))
+
+pub returns : goal.returns
+returns c = omega (arith, last_piece c.args.b c.args.s.now c.loop-c.c-index (omega arith))
