@@ -1,5 +1,5 @@
-// Answers what the Rust oracle was asked of the kinds of values in payloads, item by item (oracle/README.md has the protocol).
-// Standard input has at most 2,097,152 bytes; what stands behind them is not read.
+// Answers what the Rust oracle was asked of the kinds of values in payloads, item by item (oracle/README.md has the
+// protocol). Standard input has at most 2,097,152 bytes; what stands behind them is not read.
 
 #![tactic(auto)]
 
@@ -21,8 +21,8 @@ fn input_buffer() -> [u8; 2097152] {
     [0u8; 2097152]
 }
 
-// An empty line has no answer. Each replay has this for itself: a public function that takes what answers would have a
-// `requires`, and none has one.
+// An empty line has no answer. No range: a step is the length of the line, which is that of `words::line_from`. Each
+// replay has this for itself: a public function that takes what answers would have a `requires`, and none has one.
 fn answer_all(rt: &impl Print, input: &[u8]) -> io::Result<()> {
     let mut from = 0;
     while from < input.len() {

@@ -20,8 +20,8 @@ fn input_buffer() -> [u8; 1048576] {
     [0u8; 1048576]
 }
 
-// An empty line has no answer. Each replay has this for itself: a public function that takes what answers would have a
-// `requires`, and none has one.
+// An empty line has no answer. No range: a step is the length of the line, which is that of `words::line_from`. Each
+// replay has this for itself: a public function that takes what answers would have a `requires`, and none has one.
 fn answer_all(rt: &impl Print, input: &[u8]) -> io::Result<()> {
     let mut from = 0;
     while from < input.len() {
